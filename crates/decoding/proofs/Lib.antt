@@ -1,0 +1,9 @@
+pub mod Matrix
+pub mod Column
+pub mod Peak
+pub mod Motion
+pub mod Update
+pub mod Decode
+pub mod Outcome
+pub mod Symmetry
+pub mod Demand3

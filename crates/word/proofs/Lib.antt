@@ -1,0 +1,7 @@
+pub mod Sums
+pub mod Place
+pub mod Product
+pub mod Division
+pub mod Quotient
+pub mod Unique
+pub mod CyclicCode
