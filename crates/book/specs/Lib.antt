@@ -1,3 +1,4 @@
 pub mod Book
 pub mod Layout
 pub mod Conditions
+pub mod Inputs
