@@ -109,7 +109,7 @@ module _ (F : FieldOps) (d : ℕ) (g : ℕ → ℕ) where
     unfolding reduce
     reduce-below a R ha hR i = add-below (before a R i) (R (pred d) ⊗ g i) (before-below a R ha hR i) (mul-below (R (pred d)) (g i))
 
-    reduce-cong : (a : ℕ) (R S : ℕ → ℕ) → ((i : ℕ) → i < d → R i ≡ S i) → (i : ℕ) → i < d → reduce F d g R a i ≡ reduce F d g S a i
+    pub reduce-cong : (a : ℕ) (R S : ℕ → ℕ) → ((i : ℕ) → i < d → R i ≡ S i) → (i : ℕ) → i < d → reduce F d g R a i ≡ reduce F d g S a i
     unfolding reduce
     reduce-cong a R S h i l = ap₂ _⊕_ (before-cong a R S d h i l) (ap (_⊗ g i) (h (pred d) (omega arith)))
 
