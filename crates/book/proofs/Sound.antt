@@ -20,7 +20,7 @@ pub record Sound (width : ℕ) (bytes : List ℕ) : Type 0 where
   pub distinct-ok : T (distinctOk (fieldOf bytes) (bookOf width bytes))
 
 -- no refusal: the test is passed, and none after it fails
-passed : (ok : Bool) (number rest : ℕ) → unless ok (suc number) rest ≡ 0 → T ok × (rest ≡ 0)
+pub passed : (ok : Bool) (number rest : ℕ) → unless ok (suc number) rest ≡ 0 → T ok × (rest ≡ 0)
 passed true number rest e = (tt, e)
 passed false number rest e = absurd (omega arith)
 
