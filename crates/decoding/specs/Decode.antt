@@ -15,6 +15,13 @@ use Rattle.decoding.specs.Matrix.{matrix, cell}
 pub data Kind : Type 0 where
   clean mended stalled spent : Kind
 
+-- "letter (C Clean, M Mended, S Stalled, X Spent)", as the byte that is printed
+abbrev pub letter : Kind → ℕ
+letter clean = 67
+letter mended = 77
+letter stalled = 83
+letter spent = 88
+
 pub record Result : Type 0 where
   pub kind : Kind
   -- "rounds is the count of rounds made, a Stalled one's last included"
