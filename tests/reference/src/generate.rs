@@ -1,0 +1,141 @@
+//! Test input from a seed: accepted codebooks of every shape, words of every
+//! sort, and books with known faults. The same seed gives the same input.
+
+mod damage;
+mod random;
+mod roots;
+mod words;
+
+use std::collections::{BTreeMap, BTreeSet};
+
+pub use damage::{damage, damage_all};
+pub use random::Random;
+pub use words::{any_message, any_word, arbitrary, bad_symbol, code_word, damaged_code_word};
+pub use words::{message, wrong_length};
+
+use crate::books;
+use crate::field::Field;
+use crate::word;
+
+/// Every (s, p) with "s from 2 to 6, and p divides s".
+pub const SHAPES: [(u8, u8); 13] = [
+    (2, 1),
+    (2, 2),
+    (3, 1),
+    (3, 3),
+    (4, 1),
+    (4, 2),
+    (4, 4),
+    (5, 1),
+    (5, 5),
+    (6, 1),
+    (6, 2),
+    (6, 3),
+    (6, 6),
+];
+
+/// Which weight the dual words of a book are taken from.
+#[derive(Clone, Copy)]
+enum Taste {
+    /// The least weight found.
+    Light,
+    /// Any weight found.
+    Any,
+    /// The weight that most of the words found have, so that L is large.
+    Many,
+}
+
+/// Dual words by their weight.
+type Groups = BTreeMap<usize, BTreeSet<Vec<u8>>>;
+
+/// How many multiples are tried where many words of one weight are wanted.
+const MOST_ATTEMPTS: usize = 64;
+
+/// A codebook that is accepted. Refusal 3 where s and p are none.
+pub fn book(s: u8, p: u8, random: &mut Random) -> Result<Vec<u8>, u8> {
+    let (generator, cofactor) = roots::factors(s, p, random)?;
+    let taste = *random.pick(&[Taste::Light, Taste::Any, Taste::Many]);
+    let wanted = random.between(1, 32);
+    let at_once = match taste {
+        Taste::Many => wanted,
+        Taste::Light | Taste::Any => 1,
+    };
+    let groups = dual_words(Field::new(p)?, &cofactor, at_once, random);
+    let mut group = choose(groups, taste, random);
+    random.shuffle(&mut group);
+    group.truncate(wanted);
+    let i = limit(63, random);
+    let d = limit(generator.len(), random);
+    Ok(books::write(s, p, &generator, i, d, &group))
+}
+
+/// A codebook of any shape.
+pub fn any_book(random: &mut Random) -> Vec<u8> {
+    loop {
+        let (s, p) = *random.pick(&SHAPES);
+        if let Ok(book) = book(s, p, random) {
+            return book;
+        }
+    }
+}
+
+/// I or D: the ends often, small ones often, any of the rest.
+fn limit(most: usize, random: &mut Random) -> u8 {
+    let limit = match random.below(3) {
+        0 => random.between(1, most.min(4)),
+        _ => random.between(1, most),
+    };
+    limit as u8
+}
+
+/// Nonzero multiples of h = (x^n - 1) / g, h itself among them, each turned
+/// so that place 0 is nonzero and scaled so that it is 1; by weight. Looked
+/// for longer while no weight has the words wanted.
+fn dual_words(field: Field, cofactor: &[u8], wanted: usize, random: &mut Random) -> Groups {
+    let n = cofactor.len();
+    let few = random.below(12);
+    let mut groups = Groups::new();
+    for attempt in 0..MOST_ATTEMPTS {
+        if attempt > few && groups.values().any(|group| group.len() >= wanted) {
+            break;
+        }
+        let factor = match attempt {
+            0 => vec![1],
+            _ if random.once_in(3) => arbitrary(n, field.q(), random),
+            _ => few_terms(n, field.q(), random),
+        };
+        let multiple = word::product(field, cofactor, &factor);
+        for place in (0..n).filter(|&place| multiple[place] != 0) {
+            if let Some(inverse) = field.inverse(multiple[place]) {
+                let turned = word::turn(&multiple, n - place);
+                let scaled = word::scale(field, &turned, inverse);
+                let weight = word::weight(&scaled);
+                groups.entry(weight).or_default().insert(scaled);
+            }
+        }
+    }
+    groups
+}
+
+/// A multiplier of few terms, which keeps the multiple light.
+fn few_terms(n: usize, q: u8, random: &mut Random) -> Vec<u8> {
+    let mut factor = vec![0; n];
+    for _ in 0..random.between(1, n.min(5)) {
+        factor[random.below(n)] = random.symbol(1, q);
+    }
+    factor
+}
+
+/// The words of one weight.
+fn choose(groups: Groups, taste: Taste, random: &mut Random) -> Vec<Vec<u8>> {
+    let mut groups: Vec<BTreeSet<Vec<u8>>> = groups.into_values().collect();
+    let chosen = match taste {
+        Taste::Light => 0,
+        Taste::Any => random.below(groups.len()),
+        Taste::Many => {
+            groups.sort_by_key(BTreeSet::len);
+            groups.len() - 1
+        }
+    };
+    groups.swap_remove(chosen).into_iter().collect()
+}

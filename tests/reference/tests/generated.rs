@@ -1,0 +1,329 @@
+//! The generator of test input: what it promises is what check finds.
+
+use std::collections::{BTreeMap, BTreeSet};
+
+use reference::codebook::check;
+use reference::field::Field;
+use reference::generate::{self, damage, damage_all, Random, SHAPES};
+use reference::{coder, decode, matrix, stream, word};
+
+#[test]
+fn generated_books_are_accepted_and_meet_the_ends() {
+    for (s, p) in SHAPES {
+        let n = (1usize << s) - 1;
+        let mut seen: BTreeMap<&str, BTreeSet<usize>> = BTreeMap::new();
+        for seed in 0..80 {
+            let mut random = Random::new(seed);
+            let bytes = generate::book(s, p, &mut random).expect("a shape");
+            if seed < 5 {
+                let again = generate::book(s, p, &mut Random::new(seed));
+                assert_eq!(again.as_ref(), Ok(&bytes));
+            }
+            let book = check(&bytes).expect("accepted");
+            assert_eq!((book.s(), book.field().p()), (s, p));
+            let mut see = |what, number| seen.entry(what).or_default().insert(number);
+            see("I", book.most_rounds().into());
+            see("D", book.most_places().into());
+            see("L", book.l());
+            see("degree", n - book.k());
+            see("weight", book.weight());
+        }
+        let met = |what: &str, number| seen[what].contains(&number);
+        assert!(met("I", 1) && met("I", 63));
+        assert!(met("D", 1) && met("D", n));
+        assert!(met("L", 1) && (n < 15 || met("L", 32)), "s {s}, p {p}");
+        assert!(met("degree", 1) && met("degree", n - 1), "s {s}, p {p}");
+        assert!(n < 15 || seen["weight"].len() > 4);
+        assert!(n < 15 || seen["degree"].len() > 4);
+    }
+    for (s, p) in [(0, 1), (2, 0), (3, 2), (7, 1), (6, 4), (255, 255)] {
+        assert_eq!(generate::book(s, p, &mut Random::new(1)), Err(3));
+    }
+}
+
+#[test]
+fn damaged_books_are_refused_by_the_number_meant() {
+    let mut tried = 0;
+    for (s, p) in SHAPES {
+        for seed in 0..12 {
+            let mut random = Random::new(seed << 8 | u64::from(s));
+            let book = generate::book(s, p, &mut random).expect("a shape");
+            for fault in 1..=8 {
+                for _ in 0..6 {
+                    let mut damaged = book.clone();
+                    damage(&mut damaged, fault, &mut random);
+                    assert_eq!(check(&damaged).err(), Some(fault), "s {s}, p {p}");
+                    tried += 1;
+                }
+            }
+        }
+    }
+    assert_eq!(tried, 12 * 8 * 6 * SHAPES.len());
+}
+
+#[test]
+fn of_several_faults_the_smallest_is_found() {
+    let mut tried = 0;
+    for (s, p) in SHAPES {
+        let mut random = Random::new(u64::from(s) << 8 | u64::from(p));
+        let books: Vec<Vec<u8>> = (0..16)
+            .map(|_| generate::book(s, p, &mut random).expect("a shape"))
+            .collect();
+        for faults in 1..256u32 {
+            let faults: Vec<u8> = (1..=8)
+                .filter(|fault| faults >> (fault - 1) & 1 == 1)
+                .collect();
+            let mut book = books[random.below(16)].clone();
+            damage_all(&mut book, &faults, &mut random);
+            assert_eq!(check(&book).err(), faults.first().copied(), "{faults:?}");
+            tried += 1;
+        }
+        // In any other order the book is refused all the same.
+        for _ in 0..100 {
+            let mut book = books[random.below(16)].clone();
+            for _ in 0..4 {
+                damage(&mut book, 1 + random.below(8) as u8, &mut random);
+                assert!(check(&book).is_err());
+            }
+            tried += 1;
+        }
+    }
+    assert_eq!(tried, 355 * SHAPES.len());
+}
+
+#[test]
+fn every_way_of_damage_is_taken() {
+    let mut ways: BTreeMap<String, usize> = BTreeMap::new();
+    for seed in 0..1500 {
+        let mut random = Random::new(seed);
+        let book = generate::book(4, 2, &mut random).expect("a shape");
+        let good = check(&book).expect("accepted");
+        for fault in 1..=8 {
+            let mut damaged = book.clone();
+            damage(&mut damaged, fault, &mut random);
+            let way = way(fault, good.l(), &damaged);
+            *ways.entry(format!("{fault} {way}")).or_default() += 1;
+        }
+    }
+    let due = [
+        "1 empty",
+        "1 long",
+        "1 no records",
+        "1 odd",
+        "1 short",
+        "2 dual word",
+        "2 first",
+        "2 second",
+        "2 third",
+        "3 both",
+        "3 p",
+        "3 s",
+        "4 dual word place",
+        "4 dual word symbol",
+        "4 generator place",
+        "4 generator symbol",
+        "5 degree",
+        "5 divisor",
+        "5 lead",
+        "5 zero",
+        "6 D",
+        "6 I",
+        "6 both",
+        "7 first place 0",
+        "7 first product",
+        "7 first weight",
+        "7 later place 0",
+        "7 later product",
+        "7 later weight",
+        "8 added",
+        "8 replaced",
+    ];
+    for due in due {
+        assert!(ways.remove(due).is_some_and(|count| count >= 10), "{due}");
+    }
+    assert_eq!(ways.into_keys().next(), None);
+}
+
+/// Which way a book of s 4, p 2 was damaged.
+fn way(fault: u8, l: usize, book: &[u8]) -> String {
+    let field = Field::new(2).expect("1 to 6");
+    match fault {
+        1 => match book.len() {
+            0 => "empty",
+            70 => "no records",
+            1..134 => "short",
+            2119.. => "long",
+            _ => "odd",
+        },
+        2 => match (book[0], book[3], book[67]) {
+            (1, 2, 3) => "dual word",
+            (1, 2, _) => "third",
+            (1, _, _) => "second",
+            _ => "first",
+        },
+        3 => match ((2..=6).contains(&book[1]), (1..=6).contains(&book[2])) {
+            (true, _) => "p",
+            (false, true) => "s",
+            (false, false) => "both",
+        },
+        4 => {
+            let wrong = |body: &[u8]| {
+                let symbol = body[..15].iter().any(|&symbol| symbol > 3);
+                let place = body[15..].iter().any(|&byte| byte != 0);
+                (symbol, place)
+            };
+            match wrong(&book[4..67]) {
+                (true, _) => "generator symbol",
+                (_, true) => "generator place",
+                _ => match (0..l).any(|word| wrong(&book[71 + 64 * word..134 + 64 * word]).0) {
+                    true => "dual word symbol",
+                    false => "dual word place",
+                },
+            }
+        }
+        5 => match word::degree(&book[4..67]) {
+            None => "zero",
+            Some(0) => "degree",
+            Some(lead) if book[4 + lead] != 1 => "lead",
+            Some(_) => "divisor",
+        },
+        6 => match ((1..=63).contains(&book[68]), (1..=15).contains(&book[69])) {
+            (true, _) => "D",
+            (_, true) => "I",
+            _ => "both",
+        },
+        7 => return dual_word_way(field, book),
+        _ if book.len() > 70 + 64 * l => "added",
+        _ => "replaced",
+    }
+    .to_string()
+}
+
+fn dual_word_way(field: Field, book: &[u8]) -> String {
+    let words: Vec<&[u8]> = book[70..].chunks(64).map(|record| &record[1..16]).collect();
+    let product = |b: &[u8]| word::weight(&word::product(field, b, &book[4..19]));
+    let where_from = |index| if index == 0 { "first" } else { "later" };
+    if let Some(index) = words.iter().position(|b| b[0] != 1) {
+        return format!("{} place 0", where_from(index));
+    }
+    if let Some(index) = words.iter().position(|b| product(b) != 0) {
+        return format!("{} product", where_from(index));
+    }
+    // With two words either may be the one changed: take the later.
+    let weights: Vec<usize> = words.iter().map(|b| word::weight(b)).collect();
+    let first = weights.len() > 2 && weights[1..].iter().all(|&weight| weight == weights[1]);
+    format!("{} weight", if first { "first" } else { "later" })
+}
+
+#[test]
+fn generated_words_are_what_they_say() {
+    let (mut clean, mut erred, mut bad, mut wrong) = (0, 0, 0, 0);
+    for seed in 0..200 {
+        let mut random = Random::new(seed);
+        let bytes = generate::any_book(&mut random);
+        let book = check(&bytes).expect("accepted");
+        let mut message = vec![0; book.k()];
+        let word = generate::code_word(&book, &mut random);
+        assert_eq!(coder::read(&bytes, &word, &mut message), Ok(()));
+        clean += 1;
+        let errors = random.between(1, book.n());
+        let mut same = random.clone();
+        let word = generate::damaged_code_word(&book, errors, &mut random);
+        let sent = generate::code_word(&book, &mut same);
+        let difference = word::add(book.field(), &word, &sent);
+        assert_eq!(word::weight(&difference), errors);
+        erred += 1;
+        let mut entries = vec![0; book.entries()];
+        let word = generate::bad_symbol(sent.clone(), book.q(), &mut random);
+        assert_eq!(matrix::matrix(&bytes, &word, &mut entries), Err(11));
+        bad += 1;
+        let word = generate::wrong_length(sent, book.q(), &mut random);
+        assert_eq!(matrix::matrix(&bytes, &word, &mut entries), Err(9));
+        wrong += 1;
+    }
+    assert_eq!((clean, erred, bad, wrong), (200, 200, 200, 200));
+}
+
+#[test]
+fn words_and_messages_of_any_sort_are_of_every_sort() {
+    let mut answers: BTreeMap<String, usize> = BTreeMap::new();
+    for seed in 0..200 {
+        let mut random = Random::new(seed);
+        let bytes = generate::any_book(&mut random);
+        let book = check(&bytes).expect("accepted");
+        for _ in 0..10 {
+            let mut message = vec![0; book.k()];
+            let word = generate::any_word(&book, &mut random);
+            let read = book.read(&word, &mut message);
+            *answers.entry(format!("read {read:?}")).or_default() += 1;
+            let mut word = vec![0; book.n()];
+            let message = generate::any_message(&book, &mut random);
+            let coded = book.code(&message, &mut word);
+            *answers.entry(format!("code {coded:?}")).or_default() += 1;
+        }
+    }
+    let due = [
+        "read Ok(())",
+        "read Err(9)",
+        "read Err(11)",
+        "read Err(12)",
+        "code Ok(())",
+        "code Err(9)",
+        "code Err(11)",
+    ];
+    for due in due {
+        assert!(
+            answers.remove(due).is_some_and(|count| count > 100),
+            "{due}"
+        );
+    }
+    assert!(answers.is_empty(), "{answers:?}");
+}
+
+#[test]
+fn any_bytes_are_answered() {
+    let (mut accepted, mut refused) = (0, 0);
+    let mut random = Random::new(11);
+    for _ in 0..5_000 {
+        let bytes = any_bytes(&mut random);
+        let number = check(&bytes).err();
+        let input = generate::arbitrary(random.between(0, 70), 255, &mut random);
+        let mut word = vec![0; random.between(0, 70)];
+        let mut entries = vec![0; random.between(0, 200)];
+        let answers = [
+            coder::code(&bytes, &input, &mut word).err(),
+            coder::read(&bytes, &input, &mut word).err(),
+            matrix::matrix(&bytes, &input, &mut entries).err(),
+            decode::decode(&bytes, &input, &mut word, &mut entries).err(),
+        ];
+        match number {
+            Some(_) => assert!(answers.iter().all(|&answer| answer == number)),
+            None => assert!(answers.iter().all(|answer| !matches!(answer, Some(..9)))),
+        }
+        accepted += usize::from(number.is_none());
+        refused += usize::from(number.is_some());
+        let length = (bytes.len() as u16).to_le_bytes();
+        let stream: Vec<u8> = length.into_iter().chain(bytes).chain(input).collect();
+        let mut output = Vec::new();
+        stream::run(&mut stream.as_slice(), &mut output);
+        if let Some(number) = number {
+            assert_eq!(output, format!("R {number}\n").into_bytes());
+        }
+    }
+    assert!(accepted > 100 && refused > 100, "{accepted} {refused}");
+}
+
+/// A small book with a few bytes changed, or no book at all.
+fn any_bytes(random: &mut Random) -> Vec<u8> {
+    if random.once_in(8) {
+        let length = *random.pick(&[0, 5, 133, 134, 198, 2118, 3000]);
+        return (0..length).map(|_| random.byte()).collect();
+    }
+    let (s, p) = *random.pick(&[(2, 1), (2, 2), (3, 1), (3, 3)]);
+    let mut book = generate::book(s, p, random).expect("a shape");
+    for _ in 0..random.between(0, 3) {
+        let place = random.below(book.len().min(80));
+        book[place] = *random.pick(&[0, 1, 2, 3, 4, 5, 6, 7, 63, 64, 255]);
+    }
+    book
+}

@@ -1,0 +1,64 @@
+//! The result of a call as one number.
+
+use reference::books::{self, symbols};
+use reference::packed;
+
+#[test]
+fn check_has_l_in_byte_1() {
+    assert_eq!(packed::check(&books::a()), 0x0000_0100);
+    let words = ["1110100", "1101001", "1010011"].map(symbols);
+    let book = books::write(3, 1, &symbols("1101"), 3, 1, &words);
+    assert_eq!(packed::check(&book), 0x0000_0300);
+    assert_eq!(packed::check(&books::a_with(8)), 6);
+    assert_eq!(packed::check(&[]), 1);
+}
+
+#[test]
+fn code_and_read_have_nothing_more() {
+    let (mut word, mut message) = ([255; 7], [255; 4]);
+    assert_eq!(packed::code(&books::a(), &symbols("1000"), &mut word), 0);
+    assert_eq!(word[..], symbols("1101000"));
+    assert_eq!(packed::read(&books::a(), &word, &mut message), 0);
+    assert_eq!(message[..], symbols("1000"));
+    assert_eq!(packed::code(&books::a(), &symbols("10000"), &mut word), 9);
+    assert_eq!(packed::code(&[], &symbols("1000"), &mut word), 1);
+    assert_eq!(
+        packed::read(&books::a(), &symbols("1000000"), &mut message),
+        12
+    );
+    assert_eq!(
+        packed::read(&books::a(), &symbols("2000000"), &mut message),
+        11
+    );
+    assert_eq!(message[..], symbols("1000"));
+}
+
+#[test]
+fn decode_has_changed_rounds_and_letter() {
+    let number = |letter: u8, rounds: u32, changed: u32| {
+        u32::from(letter) << 24 | rounds << 16 | changed << 8
+    };
+    let cases = [
+        (books::a(), "1101000", number(b'C', 0, 0), "1101000"),
+        (books::a(), "1100000", number(b'M', 1, 1), "1101000"),
+        (books::b(), "120", number(b'S', 1, 0), "120"),
+        (books::a_with(7), "1000000", number(b'X', 3, 0), "1000000"),
+        (books::c_with(3), "100", number(b'M', 1, 3), "032"),
+    ];
+    for (book, received, number, answer) in cases {
+        let mut word = vec![255; received.len()];
+        assert_eq!(packed::decode(&book, &symbols(received), &mut word), number);
+        assert_eq!(word, symbols(answer));
+    }
+}
+
+#[test]
+fn a_refused_decode_has_the_number_alone() {
+    let mut word = [255; 7];
+    let bad = symbols("2000000");
+    assert_eq!(packed::decode(&books::a(), &bad, &mut word), 11);
+    assert_eq!(packed::decode(&books::a(), &bad[..6], &mut word), 9);
+    assert_eq!(packed::decode(&books::a(), &bad, &mut word[..6]), 10);
+    assert_eq!(packed::decode(&books::a_with(8), &bad, &mut word), 6);
+    assert_eq!(word, [255; 7]);
+}
