@@ -1,6 +1,7 @@
 pub mod Matrix
 pub mod Column
 pub mod Peak
+pub mod Empty
 pub mod Motion
 pub mod Update
 pub mod Decode

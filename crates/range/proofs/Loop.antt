@@ -4,14 +4,14 @@ use mathlib.Core.Path.{_≡_, refl, sym, ap, ap₂, _∙_, subst}
 use mathlib.Core.Bool.{Bool, true, false, cond, _&&_}
 use mathlib.Core.Logic.{⊎-elim}
 use mathlib.Core.List.{List}
-use Prim.Native.Nat.{ℕ, zero, suc, _+_, _≤_, _<_}
-use native.Mathlib.Nat.{eq-or-lt-of-le, le-of-suc-le-suc, not-suc-le-zero, lt-irrefl}
+use Prim.Native.Nat.{ℕ, zero, suc, _+_, _≤_, _<_, zero-le}
+use native.Mathlib.Nat.{le-trans, le-of-eq, eq-or-lt-of-le, le-of-suc-le-suc, not-suc-le-zero, lt-irrefl}
 use native.Mathlib.Numerals.{add-one}
 use native.Mathlib.Decide.{decLt}
 use native.Mathlib.Omega.{arith}
 use borrow.Author.Tests.{lt-ltb, le-ltb}
 use lib.Dec.{T, ltb}
-use lib.ListN.{length, getD, set, replicate, length-set, length-replicate}
+use lib.ListN.{length, getD, set, replicate, length-set, length-replicate, List·getD-eq-default}
 use lib.Seq.{getD-set-same, getD-set-other, ext-getD}
 use Rattle.range.specs.Fold.{fold, all}
 use Rattle.range.specs.Table.{table, padded}
@@ -131,3 +131,46 @@ over-table n f w₀ w e h =
     ext-getD 0 w (table n f) (h .long ∙ e ∙ sym (table-length n f)) (λ k l.
     let b : k < n = subst (λ (m : ℕ). k < m) (h .long ∙ e) l in
     h .at k b ∙ sym (table-at n f b))
+
+-- ---- an array that holds a shorter word reads like the word
+
+pub padded-reads : (size n : ℕ) (f : ℕ → ℕ) → n ≤ size → (k : ℕ) → getD (padded size n f) k 0 ≡ getD (table n f) k 0
+unfolding padded
+padded-reads size n f h k = go (decLt k n) (decLt k size)
+  where
+    past : (m : ℕ) (f : ℕ → ℕ) → m ≤ k → getD (table m f) k 0 ≡ 0
+    past m f l = List·getD-eq-default (table m f) 0 (le-trans (le-of-eq (table-length m f)) l)
+
+    go : Dec (k < n) → Dec (k < size) → getD (padded size n f) k 0 ≡ getD (table n f) k 0
+    go (yes l) d = padded-at size n f h l ∙ sym (table-at n f l)
+    go (no l) (yes b) =
+        table-at size (λ j. cond (ltb j n) (f j) 0) b ∙ ap (λ (t : Bool). cond t (f k) 0) (le-ltb k n (omega arith)) ∙ sym (past n f (omega arith))
+    go (no l) (no b) = past size (λ j. cond (ltb j n) (f j) 0) (omega arith) ∙ sym (past n f (omega arith))
+
+-- where the function is 0 from place n on, nothing is left out
+pub padded-whole : (size n : ℕ) (f : ℕ → ℕ) → ((k : ℕ) → k < size → n ≤ k → f k ≡ 0) → padded size n f ≡ table size f
+unfolding padded
+padded-whole size n f z = table-same size (λ k l. go k l (decLt k n))
+  where
+    go : (k : ℕ) → k < size → Dec (k < n) → cond (ltb k n) (f k) 0 ≡ f k
+    go k l (yes b) = ap (λ (t : Bool). cond t (f k) 0) (lt-ltb k n b)
+    go k l (no b) = ap (λ (t : Bool). cond t (f k) 0) (le-ltb k n (omega arith)) ∙ sym (z k l (omega arith))
+
+-- ---- a test of a range that stops at the first failure: of n places the i before it pass
+
+pub record Passing (n : ℕ) (p : ℕ → Bool) (i : ℕ) : Type 0 where
+  pub within : i ≤ n
+  pub passed : all i p ≡ true
+
+pub passing-none : (n : ℕ) (p : ℕ → Bool) → Passing n p 0
+passing-none n p = record { within = zero-le; passed = fold-none _&&_ true p }
+
+module _ {n : ℕ} {p : ℕ → Bool} {i : ℕ} (h : Passing n p i) where
+  pub passing-more : i < n → p i ≡ true → Passing n p (i + 1)
+  passing-more l e = record { within = omega arith; passed = all-step i p (h .passed) e }
+
+  pub passing-fails : i < n → p i ≡ false → false ≡ all n p
+  passing-fails l e = sym (all-fails n p i l e)
+
+  pub passing-end : n ≤ i → true ≡ all n p
+  passing-end l = subst (λ (k : ℕ). true ≡ all k p) (omega arith) (sym (h .passed))

@@ -1,0 +1,119 @@
+-- What an accepted book gives to those who read it: sizes, field laws, and words held in arrays, by the parameters that were read off it.
+-- Assumes nothing.
+use mathlib.Core.Path.{_≡_, refl, sym, ap, _∙_, fun-ext}
+use mathlib.Core.List.{List}
+use Prim.Native.Nat.{ℕ, _+_, _*_, _^_, _≤_, _<_}
+use native.Mathlib.Nat.{mod-lt}
+use native.Mathlib.Omega.{arith}
+use lib.Dec.{leb→le}
+use lib.ListN.{length}
+use Rattle.range.specs.Table.{table, padded}
+use Rattle.range.proofs.Tests.{same-test, and-left, and-right}
+use Rattle.range.proofs.Table.{table-at}
+use Rattle.field.specs.Field.{FieldOps, FieldLaws}
+use Rattle.field.proofs.Gf.{gf-laws}
+use Rattle.word.specs.Word.{at}
+use Rattle.word.specs.CyclicCode.{isCode}
+use Rattle.word.proofs.Place.{at-lt}
+use Rattle.word.proofs.Division as D
+use Rattle.array.specs.Stored as S
+use Rattle.array.specs.Stored.{place, Stored}
+use Rattle.book.specs.Book.{Book, Accepted}
+use Rattle.book.specs.Layout.{width, symbolDigits, wordLength, fieldOf, bookOf}
+use Rattle.book.specs.Conditions.{limitsOk, refusal}
+use Rattle.book.proofs.Sound.{sound}
+use Rattle.book.proofs.Accepting.{Sizes, accepted}
+use Rattle.codebook.specs.Params.{Describes}
+use Rattle.codebook.specs.declared.Params.{Params}
+use Rattle.codebook.proofs.Tested.{readable}
+use Rattle.codebook.proofs.Reading.{sized, generator-is}
+
+-- a code word is one by its places below n
+pub isCode-cong : (F : FieldOps) → FieldLaws F → (n d : ℕ) (g w v : ℕ → ℕ) → ((j : ℕ) → j < n → w j ≡ v j) → isCode F n d g w ≡ isCode F n d g v
+unfolding isCode
+isCode-cong F laws n d g w v h =
+    same-test (isCode F n d g w) (isCode F n d g v)
+    (λ t. D.divided-test F d g laws n v (λ i l. sym (D.remainder-cong F d g laws n w v h i) ∙ D.divided-of F d g laws n w t i l))
+    (λ t. D.divided-test F d g laws n w (λ i l. D.remainder-cong F d g laws n w v h i ∙ D.divided-of F d g laws n v t i l))
+
+module _ (bytes : List ℕ) (e : refusal width bytes ≡ 0) where
+  abbrev F : FieldOps
+  F = fieldOf bytes
+
+  abbrev B : Book
+  B = bookOf width bytes
+
+  pub book-sizes : Sizes bytes
+  book-sizes = accepted width (omega arith) bytes e .0
+
+  pub book-accepted : Accepted F B
+  book-accepted = accepted width (omega arith) bytes e .1
+
+  pub book-laws : FieldLaws F
+  book-laws = gf-laws (symbolDigits bytes) (book-sizes .p-low) (book-sizes .p-high)
+
+  pub n-word-length : B .n ≡ wordLength bytes
+  unfolding bookOf
+  n-word-length = refl
+
+  pub n-pos : 0 < B .n
+  n-pos = omega (arith, n-word-length, book-sizes .n-low)
+
+  pub n-high : B .n ≤ 63
+  n-high = omega (arith, n-word-length, book-sizes .n-high)
+
+  pub array-sizes : S.Sizes (symbolDigits bytes) (B .n)
+  array-sizes = record { p-low = book-sizes .p-low; p-high = book-sizes .p-high; n-low = n-pos; n-high = n-high }
+
+  pub degree-sizes : S.Sizes (symbolDigits bytes) (B .degree)
+  degree-sizes =
+      record {
+        p-low = book-sizes .p-low;
+        p-high = book-sizes .p-high;
+        n-low = book-accepted .generates .degree-pos;
+        n-high = omega (arith, n-high, book-accepted .generates .degree-lt);
+      }
+
+  -- at least one round may be made
+  pub some-rounds : 1 ≤ B .most-rounds
+  unfolding limitsOk
+  some-rounds = let t = sound width bytes e .limits-ok in leb→le 1 (B .most-rounds) (search (and-left, and-right) depth 5)
+
+  -- a word in an array is the word of its list
+  pub at-listed : (w : List ℕ) → at (B .n) (table (B .n) (place w)) ≡ at (B .n) w
+  unfolding at
+  at-listed w = fun-ext (λ j. table-at (B .n) (place w) (mod-lt j n-pos))
+
+  pub code-at : (w : List ℕ) → isCode F (B .n) (B .degree) (B .generator) (place w) ≡ isCode F (B .n) (B .degree) (B .generator) (at (B .n) w)
+  code-at w = isCode-cong F book-laws (B .n) (B .degree) (B .generator) (place w) (at (B .n) w) (λ j l. sym (at-lt (B .n) w l))
+
+-- ---- by the parameters that were read off the book
+
+module _ (bytes : List ℕ) (c : Params) (d : Describes bytes c) where
+  pub params-sizes : S.Sizes (c .p) (c .n)
+  params-sizes = rw (d .p-is, d .n-is) (array-sizes bytes (d .accepted))
+
+  pub params-degree-sizes : S.Sizes (c .p) (c .degree)
+  params-degree-sizes = rw (d .p-is, d .degree-is) (degree-sizes bytes (d .accepted))
+
+  -- a word, the generator and a matrix, as the functions below ask for them
+  pub params-stored : {w : List ℕ} → Stored (symbolDigits bytes) (bookOf width bytes .n) w → Stored (c .p) (c .n) w
+  params-stored h = rw (d .p-is, d .n-is) h
+
+  pub params-generator : {g : List ℕ} → ((j : ℕ) → place g j ≡ bookOf width bytes .generator j) → Stored (c .p) (c .degree) g
+  params-generator h =
+      record { symbol = λ j l. rw (d .p-is, h j) (book-accepted bytes (d .accepted) .generates .symbols j) }
+
+  pub params-matrix : {size : ℕ} → size ≡ fieldOf bytes .q * bookOf width bytes .n → size ≡ 2 ^ c .p * c .n
+  params-matrix h = rw (d .p-is, d .n-is) h
+
+  -- the generator, loaded from its body
+  pub generator-loaded : {n : ℕ} {g : List ℕ} → n ≡ c .n → g ≡ padded 63 n (λ j. place bytes (4 + j)) → (j : ℕ) → place g j ≡ bookOf width bytes .generator j
+  unfolding bookOf
+  generator-loaded e h j =
+      let r = readable bytes (d .accepted) in
+      ap (λ (f : ℕ → ℕ). f j) (generator-is (record { readable = r; sized = sized r (e ∙ d .n-is); p-is = refl; g-is = h }))
+
+  -- a body's place is within the book
+  pub book-size : 134 ≤ length bytes
+  book-size = let h = readable bytes (d .accepted) .whole in omega (arith, h .size, h .count-low)

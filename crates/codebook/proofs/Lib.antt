@@ -1,0 +1,4 @@
+pub mod Tested
+pub mod Reading
+pub mod Generator
+pub mod Described

@@ -1,0 +1,47 @@
+-- `codebook::bytes::symbols_ok` meets its contract: each return rewrites with the tests that led there.
+-- Assumes nothing.
+use Rattle.book.specs.Conditions.{symbolsOk}
+use Rattle.book.proofs.Accepting.{sizes}
+use Rattle.codebook.proofs.Tested.{failed, passed, exponent-high}
+use borrow.Author.Needs.{needs}
+use Rattle.codebook.proofs.bytes.symbols_ok.Statement.{statement}
+use Rattle.codebook.proofs.bytes.symbols_ok.Tie as tie
+
+shared-slice-read-order : tie.Need-shared-slice-read-order
+shared-slice-read-order c = search needs
+
+order-requires : tie.Need-order-requires
+order-requires c κs = sizes _ (c .before .before .pre .1) .p-high
+
+shared-slice-read-word-length : tie.Need-shared-slice-read-word-length
+shared-slice-read-word-length c = search needs
+
+word-length-requires : tie.Need-word-length-requires
+word-length-requires c κs = exponent-high _ (c .before .before .before .before .pre .1)
+
+body-ok-requires : tie.Need-body-ok-requires
+body-ok-requires c κs = search needs
+
+returns : tie.Need-returns
+unfolding symbolsOk
+returns c = rw (failed (c .before .body-ok .ensures) (c .if1 .taken))
+
+dual-bodies-ok-requires : tie.Need-dual-bodies-ok-requires
+dual-bodies-ok-requires c κs = search needs
+
+returns-2 : tie.Need-returns-2
+unfolding symbolsOk
+returns-2 c = rw (passed (c .before .before .body-ok .ensures) (c .before .if1 .left)) (c .dual-bodies-ok .ensures)
+
+pub symbols-ok-spec : {M : Type 1} → statement M
+symbols-ok-spec =
+    tie.close
+    (tie.spec
+    shared-slice-read-order
+    order-requires
+    shared-slice-read-word-length
+    word-length-requires
+    body-ok-requires
+    returns
+    dual-bodies-ok-requires
+    returns-2)

@@ -1,0 +1,42 @@
+-- `codebook::words::generator_ok` meets its contract: each return rewrites with the tests that led there.
+-- Assumes nothing.
+use native.Mathlib.Omega.{arith}
+use borrow.Author.Tests.{le-leb, lt-leb, eq-eqb, ne-eqb}
+use Rattle.codebook.specs.Params.{generatorTest}
+use borrow.Author.Needs.{needs}
+use Rattle.codebook.proofs.words.generator_ok.Statement.{statement}
+use Rattle.codebook.proofs.words.generator_ok.Tie as tie
+
+degree-requires : tie.Need-degree-requires
+degree-requires c κs = search needs
+
+returns : tie.Need-returns
+unfolding generatorTest
+returns c = rw (← c .before .degree .ensures .0, lt-leb _ _ (c .if1 .taken))
+
+array-read-leading : tie.Need-array-read-leading
+array-read-leading c = search needs
+
+returns-2 : tie.Need-returns-2
+unfolding generatorTest
+returns-2 c = rw (← c .before .before .degree .ensures .0, le-leb _ _ (c .before .if1 .left), ne-eqb _ _ (c .if2 .taken))
+
+divides-unity-requires : tie.Need-divides-unity-requires
+divides-unity-requires c κs = (search needs, record { symbol = λ j l. c .before .before .before .pre .1 .symbol j (omega arith) }, search needs, search needs)
+
+returns-3 : tie.Need-returns-3
+unfolding generatorTest
+returns-3 c =
+    let s = c .before .before in
+    rw (← s .before .degree .ensures .0, le-leb _ _ (s .if1 .left), eq-eqb _ _ (c .before .if2 .left)) (c .divides-unity .ensures)
+
+pub generator-ok-spec : {M : Type 1} → statement M
+generator-ok-spec =
+    tie.close
+    (tie.spec
+    degree-requires
+    returns
+    array-read-leading
+    returns-2
+    divides-unity-requires
+    returns-3)

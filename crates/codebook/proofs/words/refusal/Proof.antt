@@ -1,0 +1,116 @@
+-- `codebook::words::refusal` meets its contract: each return rewrites with the tests that led there.
+-- Assumes nothing.
+use mathlib.Core.Path.{_≡_, refl, _∙_}
+use mathlib.Core.Bool.{true}
+use Rattle.book.specs.Layout.{width, symbolDigits, fieldOf, bookOf}
+use Rattle.book.specs.Conditions.{generatorOk, limitsOk, bookRefusal}
+use Rattle.codebook.specs.Params.{Read}
+use Rattle.codebook.proofs.Reading.{sized, read-sizes, generator-stored, generator-test, limits-test}
+use Rattle.codebook.proofs.Tested.{failed, passed, exponent-high, readable}
+use borrow.Author.Needs.{needs}
+use Rattle.codebook.proofs.words.refusal.Statement.{statement}
+use Rattle.codebook.proofs.words.refusal.Tie as tie
+
+-- what was read, and the tests that were passed
+read : (c : tie.After-load) → let book = c .before .before .before .before .before .args .book .now in
+    Read book (symbolDigits book) (c .before .word-length .result) (c .load .result)
+read c =
+    let r = c .before .before .before .before .before .pre in
+    record { readable = r; sized = sized r (c .before .word-length .ensures .0); p-is = refl; g-is = c .load .ensures }
+
+generates : (c : tie.Else1) → let book = c .before .before .before .before .before .before .before .args .book .now in generatorOk (fieldOf book) (bookOf width book) ≡ true
+generates c = passed (c .before .generator-ok .ensures ∙ generator-test (read (c .before .before))) (c .if1 .left)
+
+limited : (c : tie.Else2) → let book = c .before .before .before .before .before .before .before .before .before .before .before .args .book .now in
+    limitsOk (fieldOf book) (bookOf width book) ≡ true
+limited c = passed (c .before .limits-ok .ensures ∙ limits-test (read (c .before .before .before .before .before .before))) (c .if2 .left)
+
+shared-slice-read-p : tie.Need-shared-slice-read-p
+shared-slice-read-p c = search needs
+
+shared-slice-read-word-length : tie.Need-shared-slice-read-word-length
+shared-slice-read-word-length c = search needs
+
+word-length-requires : tie.Need-word-length-requires
+word-length-requires c κs = exponent-high _ (c .before .before .before .pre .sizes)
+
+load-requires : tie.Need-load-requires
+load-requires c κs = search needs
+
+generator-ok-requires : tie.Need-generator-ok-requires
+generator-ok-requires c κs = (read-sizes (read c), generator-stored (read c))
+
+returns : tie.Need-returns
+unfolding bookRefusal
+returns c = rw (failed (c .before .generator-ok .ensures ∙ generator-test (read (c .before .before))) (c .if1 .taken))
+
+shared-slice-read-limits-ok : tie.Need-shared-slice-read-limits-ok
+shared-slice-read-limits-ok c = search needs
+
+shared-slice-read-limits-ok-2 : tie.Need-shared-slice-read-limits-ok-2
+shared-slice-read-limits-ok-2 c = search needs
+
+limits-ok-requires : tie.Need-limits-ok-requires
+limits-ok-requires c κs = search needs
+
+returns-2 : tie.Need-returns-2
+unfolding bookRefusal
+returns-2 c =
+    let s = c .before .before .before .before in
+    rw (generates s, failed (c .before .limits-ok .ensures ∙ limits-test (read (s .before .before))) (c .if2 .taken))
+
+duals-ok-requires : tie.Need-duals-ok-requires
+duals-ok-requires c κs = read (c .before .before .before .before .before .before)
+
+returns-3 : tie.Need-returns-3
+unfolding bookRefusal
+returns-3 c =
+    let s = c .before .before in
+    rw (generates (s .before .before .before .before), limited s, failed (c .before .duals-ok .ensures) (c .if3 .taken))
+
+distinct-ok-requires : tie.Need-distinct-ok-requires
+distinct-ok-requires c κs = read (c .before .before .before .before .before .before .before .before) .sized
+
+returns-4 : tie.Need-returns-4
+unfolding bookRefusal
+returns-4 c =
+    let t = c .before .before in
+    let s = t .before .before in
+    rw (
+      generates (s .before .before .before .before),
+      limited s,
+      passed (t .before .duals-ok .ensures) (t .if3 .left),
+      failed (c .before .distinct-ok .ensures) (c .if4 .taken),
+    )
+
+returns-5 : tie.Need-returns-5
+unfolding bookRefusal
+returns-5 c =
+    let t = c .before .before in
+    let s = t .before .before in
+    rw (
+      generates (s .before .before .before .before),
+      limited s,
+      passed (t .before .duals-ok .ensures) (t .if3 .left),
+      passed (c .before .distinct-ok .ensures) (c .if4 .left),
+    )
+
+pub refusal-spec : {M : Type 1} → statement M
+refusal-spec =
+    tie.close
+    (tie.spec
+    shared-slice-read-p
+    shared-slice-read-word-length
+    word-length-requires
+    load-requires
+    generator-ok-requires
+    returns
+    shared-slice-read-limits-ok
+    shared-slice-read-limits-ok-2
+    limits-ok-requires
+    returns-2
+    duals-ok-requires
+    returns-3
+    distinct-ok-requires
+    returns-4
+    returns-5)

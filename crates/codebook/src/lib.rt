@@ -1,0 +1,78 @@
+// The codebook: its byte layout and the conditions under which it is accepted. The book is read where it lies.
+ghost use mathlib.Core.Path.{_≡_};
+ghost use Rattle.book.specs.Layout.{width};
+ghost use Rattle.book.specs.Conditions.{refusal};
+ghost use Rattle.codebook.specs.Params.{said, checkAnswer, Describes};
+
+pub mod bytes;
+pub mod words;
+
+// Accepted, with the count of dual words, or refused, with document 01's number.
+pub enum Checked {
+    Accepted(u8),
+    Refused(u8),
+}
+
+// What coding and decoding read off an accepted book.
+pub struct Params {
+    pub p: u8,
+    pub n: usize,
+    pub degree: usize,
+    pub rounds: u8,
+    pub places: usize,
+    pub duals: usize,
+}
+
+// The first number that applies to a book, or 0.
+pub fn refusal(book: &[u8]) -> u8
+    ensures { λ r. ⌜ r ≡ refusal width (now (book .entry)) ⌝ }
+{
+    if !bytes::length_ok(book) {
+        return 1;
+    }
+    if !bytes::kinds_ok(book) {
+        return 2;
+    }
+    if !bytes::sizes_ok(book) {
+        return 3;
+    }
+    if !bytes::symbols_ok(book) {
+        return 4;
+    }
+    words::refusal(book)
+}
+
+// Check a codebook.
+pub fn check(book: &[u8]) -> Checked
+    ensures { λ r. ⌜ said r ≡ checkAnswer (now (book .entry)) ⌝ }
+{
+    let number = refusal(book);
+    if number != 0 {
+        return Checked::Refused(number);
+    }
+    Checked::Accepted(bytes::dual_count(book) as u8)
+}
+
+// What is to be known of an accepted book.
+pub fn describe(book: &[u8]) -> Params
+    requires { ⌜ refusal width (now book) ≡ 0 ⌝ }
+    ensures { λ r. ⌜ Describes (now (book .entry)) r ⌝ }
+{
+    let p = book[2];
+    let n = bytes::word_length(book[1]);
+    let g = array::load(book, 4, n);
+    Params {
+        p,
+        n,
+        degree: words::degree(n, g),
+        rounds: book[68],
+        places: wide(book[69]),
+        duals: bytes::dual_count(book),
+    }
+}
+
+fn wide(x: u8) -> usize
+    ensures { λ r. ⌜ r ≡ x ⌝ }
+{
+    x as usize
+}

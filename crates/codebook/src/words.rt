@@ -1,0 +1,187 @@
+// The conditions 5 to 8, which ask for products of whole words.
+ghost use mathlib.Core.Path.{_≡_};
+ghost use mathlib.Core.Bool.{not, _&&_};
+ghost use Prim.Native.Nat.{suc, _<_, _≤_};
+ghost use lib.Dec.{leb};
+ghost use lib.ListN.{length};
+ghost use Rattle.range.specs.Fold.{all};
+ghost use Rattle.field.specs.Symbols.{gf};
+ghost use Rattle.word.specs.Word.{at};
+ghost use Rattle.word.specs.Division.{divides};
+ghost use Rattle.word.specs.CyclicCode.{unity};
+ghost use Rattle.array.specs.Stored.{place, Sizes, Stored};
+ghost use Rattle.book.specs.Layout.{width, dualCount, fieldOf, degreeOf, bookOf};
+ghost use Rattle.book.specs.Conditions.{dualsOk, alike, distinctOk, bookRefusal};
+ghost use Rattle.codebook.specs.Params.{Readable, Sized, Read, generatorTest, dualTest};
+
+// The first number from 5 to 8 that applies, or 0.
+pub fn refusal(book: &[u8]) -> u8
+    requires { ⌜ Readable (now book) ⌝ }
+    ensures { λ r. ⌜ r ≡ bookRefusal (fieldOf (now (book .entry))) (bookOf width (now (book .entry))) ⌝ }
+{
+    let p = book[2];
+    let n = crate::bytes::word_length(book[1]);
+    let g = array::load(book, 4, n);
+    if !generator_ok(p, n, g) {
+        return 5;
+    }
+    if !limits_ok(n, book[68], book[69]) {
+        return 6;
+    }
+    if !duals_ok(p, n, g, book) {
+        return 7;
+    }
+    if !distinct_ok(n, book) {
+        return 8;
+    }
+    0
+}
+
+// The highest place below n whose symbol is not zero.
+pub fn degree(n: usize, g: [u8; 63]) -> usize
+    requires { ⌜ (1 ≤ n) × (n ≤ 63) ⌝ }
+    ensures { λ r. ⌜ (r ≡ degreeOf n (place g)) × (r < n) ⌝ }
+{
+    let mut d: usize = 0;
+    let mut i = 0;
+    while i < n {
+        if g[i] != 0 {
+            d = i;
+        }
+        i += 1;
+    }
+    d
+}
+
+// Whether g, of degree d, divides x^n - 1: the division goes over the 1 at the top, n - 1 zeros, and the 1 at the end.
+fn divides_unity(p: u8, n: usize, d: usize, g: [u8; 63]) -> bool
+    requires { ⌜ Sizes p d × Stored p d g × (1 ≤ n) × (n ≤ 63) ⌝ }
+    ensures { λ r. ⌜ r ≡ divides (gf p) d (place g) (suc n) (unity n) ⌝ }
+{
+    let top = array::divide_step(p, d, g, [0u8; 63], 1);
+    let mut rest = top;
+    let mut i = 1;
+    while i < n {
+        let next = array::divide_step(p, d, g, rest, 0);
+        rest = next;
+        i += 1;
+    }
+    let last = array::divide_step(p, d, g, rest, 1);
+    array::is_zero(d, last)
+}
+
+// 5: g has leading coefficient 1, degree 1 or more, and divides x^n - 1.
+fn generator_ok(p: u8, n: usize, g: [u8; 63]) -> bool
+    requires { ⌜ Sizes p n × Stored p n g ⌝ }
+    ensures { λ r. ⌜ r ≡ generatorTest p n (place g) ⌝ }
+{
+    let d = degree(n, g);
+    if d < 1 {
+        return false;
+    }
+    let leading = g[d];
+    if leading != 1 {
+        return false;
+    }
+    divides_unity(p, n, d, g)
+}
+
+// 6: the most rounds from 1 to 63, the most places from 1 to n.
+fn limits_ok(n: usize, rounds: u8, places: u8) -> bool
+    ensures { λ r. ⌜ r ≡ leb 1 rounds && leb rounds 63 && leb 1 places && leb places n ⌝ }
+{
+    if rounds < 1 {
+        return false;
+    }
+    if 63 < rounds {
+        return false;
+    }
+    if places < 1 {
+        return false;
+    }
+    places as usize <= n
+}
+
+// 7 for one dual word b: symbol 1 at place 0, its product with g is zero, and its weight is the one wanted.
+fn dual_ok(p: u8, n: usize, g: [u8; 63], b: [u8; 63], wanted: usize) -> bool
+    requires { ⌜ Sizes p n × Stored p n g × Stored p n b ⌝ }
+    ensures { λ r. ⌜ r ≡ dualTest p n (at n g) (at n b) wanted ⌝ }
+{
+    if b[0] != 1 {
+        return false;
+    }
+    let product = array::cyclic_product(p, n, g, b);
+    if !array::is_zero(n, product) {
+        return false;
+    }
+    let own = array::weight(n, b);
+    own == wanted
+}
+
+// 7: over all dual words, whose weight is that of the first.
+fn duals_ok(p: u8, n: usize, g: [u8; 63], book: &[u8]) -> bool
+    requires { ⌜ Read (now book) p n g ⌝ }
+    ensures { λ r. ⌜ r ≡ dualsOk (fieldOf (now (book .entry))) (bookOf width (now (book .entry))) ⌝ }
+{
+    let count = crate::bytes::dual_count(book);
+    let first = array::load(book, 71, n);
+    let wanted = array::weight(n, first);
+    let mut l = 0;
+    while l < count {
+        let b = array::load(book, 71 + 64 * l, n);
+        if !dual_ok(p, n, g, b, wanted) {
+            return false;
+        }
+        l += 1;
+    }
+    true
+}
+
+// 8: no dual word is like one before it.
+fn distinct_ok(n: usize, book: &[u8]) -> bool
+    requires { ⌜ Sized (now book) n ⌝ }
+    ensures { λ r. ⌜ r ≡ distinctOk (fieldOf (now (book .entry))) (bookOf width (now (book .entry))) ⌝ }
+{
+    let count = crate::bytes::dual_count(book);
+    let mut l = 0;
+    while l < count {
+        if seen_before(n, book, l) {
+            return false;
+        }
+        l += 1;
+    }
+    true
+}
+
+// Whether the dual word l is like one before it.
+fn seen_before(n: usize, book: &[u8], l: usize) -> bool
+    requires { ⌜ Sized (now book) n × (l < dualCount width (length (now book))) ⌝ }
+    ensures { λ r. ⌜ not r ≡ all l (λ m. not (alike (fieldOf (now (book .entry))) (bookOf width (now (book .entry))) l m)) ⌝ }
+{
+    let mut m = 0;
+    while m < l {
+        let next = m + 1;
+        if alike(n, book, l, m) {
+            return true;
+        }
+        m = next;
+    }
+    false
+}
+
+// Whether the dual words l and m are equal in all places.
+fn alike(n: usize, book: &[u8], l: usize, m: usize) -> bool
+    requires { ⌜ Sized (now book) n × (l < dualCount width (length (now book))) × (m < dualCount width (length (now book))) ⌝ }
+    ensures { λ r. ⌜ r ≡ alike (fieldOf (now (book .entry))) (bookOf width (now (book .entry))) l m ⌝ }
+{
+    let a = 71 + 64 * l;
+    let b = 71 + 64 * m;
+    let mut j = 0;
+    while j < n {
+        if book[a + j] != book[b + j] {
+            return false;
+        }
+        j += 1;
+    }
+    true
+}

@@ -1,0 +1,103 @@
+// The rounds of the decoder. A word is held by value; the matrix is a lent buffer.
+ghost use mathlib.Core.Path.{_≡_};
+ghost use Prim.Native.Nat.{_*_, _^_, _≤_};
+ghost use lib.ListN.{length};
+ghost use Rattle.field.specs.Symbols.{gf};
+ghost use Rattle.word.specs.CyclicCode.{isCode};
+ghost use Rattle.array.specs.Stored.{place, Sizes, Stored};
+ghost use Rattle.codebook.specs.Params.{Describes};
+ghost use Rattle.decoder.specs.Refusals.{decodeBytes};
+ghost use Rattle.decoder.specs.Rounds.{listed, allRounds, Ready, Stepped, Ended};
+
+use codebook::Params;
+use crate::Kind;
+
+// What comes of a round.
+pub enum Step {
+    Empty,
+    Reached,
+    Going,
+}
+
+// The word after a round, and what came of it.
+pub struct Rounded {
+    pub step: Step,
+    pub word: [u8; 63],
+}
+
+// How the rounds ended, and the answer word.
+pub struct End {
+    pub kind: Kind,
+    pub rounds: u8,
+    pub word: [u8; 63],
+}
+
+// Whether g divides a word: the remainder is zero.
+fn is_code_word(p: u8, n: usize, d: usize, g: [u8; 63], w: [u8; 63]) -> bool
+    requires { ⌜ Sizes p d × (n ≤ 63) × Stored p d g × Stored p n w ⌝ }
+    ensures { λ r. ⌜ r ≡ isCode (gf p) n d (place g) (place w) ⌝ }
+{
+    let parts = array::divide(p, n, d, g, w);
+    let remainder = parts.remainder;
+    array::is_zero(d, remainder)
+}
+
+// One round: makes the matrix and the update set, subtracts, and tests for a code word.
+fn round(book: &[u8], c: Params, g: [u8; 63], w: [u8; 63], m: &mut [u16]) -> Rounded
+    requires { ⌜ Ready (now book) c g w (now m) ⌝ }
+    ensures { λ r. ⌜ Stepped (now (book .entry)) w r (now (m .exit)) ⌝ }
+{
+    let n = c.n;
+    matrix::fill(book, c.p, n, c.duals, w, m);
+    let e = update::corrections(c.p, n, c.places, m);
+    let next = array::add(n, w, e);
+    if array::is_zero(n, e) {
+        return Rounded { step: Step::Empty, word: next };
+    }
+    if is_code_word(c.p, n, c.degree, g, next) {
+        return Rounded { step: Step::Reached, word: next };
+    }
+    Rounded { step: Step::Going, word: next }
+}
+
+// The rounds for a received word that is not a code word.
+fn go(book: &[u8], c: Params, g: [u8; 63], r: [u8; 63], m: &mut [u16]) -> End
+    requires { ⌜ Ready (now book) c g r (now m) ⌝ }
+    ensures { λ x. ⌜ Ended (now (book .entry)) (allRounds (now (book .entry)) (listed (now (book .entry)) r)) x (now (m .exit)) ⌝ }
+{
+    let most = c.rounds;
+    let mut w = r;
+    let mut made: u8 = 0;
+    while made < most {
+        let s = round(book, c, g, w, m);
+        let step = s.step;
+        let next = s.word;
+        made += 1;
+        match step {
+            Step::Empty => {
+                return End { kind: Kind::Stalled, rounds: made, word: r };
+            }
+            Step::Reached => {
+                return End { kind: Kind::Mended, rounds: made, word: next };
+            }
+            Step::Going => {
+                w = next;
+            }
+        }
+    }
+    End { kind: Kind::Spent, rounds: made, word: r }
+}
+
+// Decodes the word r: Clean where it is a code word, with a matrix of zeros; else by rounds.
+pub fn run(book: &[u8], c: Params, r: [u8; 63], m: &mut [u16]) -> End
+    requires { ⌜ Describes (now book) c × Stored (c .p) (c .n) r × (length (now m) ≡ 2 ^ c .p * c .n) ⌝ }
+    ensures { λ x. ⌜ Ended (now (book .entry)) (decodeBytes (now (book .entry)) (listed (now (book .entry)) r)) x (now (m .exit)) ⌝ }
+{
+    let n = c.n;
+    let g = array::load(book, 4, n);
+    if is_code_word(c.p, n, c.degree, g, r) {
+        matrix::clear(m);
+        return End { kind: Kind::Clean, rounds: 0, word: r };
+    }
+    go(book, c, g, r, m)
+}

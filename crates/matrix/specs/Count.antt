@@ -1,0 +1,49 @@
+-- What each layer of the counting adds to the matrix, at the flat cell k of row k / n and column k % n.
+-- Assumes nothing.
+use mathlib.Core.Path.{_≡_}
+use mathlib.Core.Bool.{_&&_}
+use mathlib.Core.List.{List}
+use Prim.Native.Nat.{ℕ, _+_, _*_, _/_, _%_, _^_, _≤_, _<_}
+use lib.Dec.{eqb}
+use lib.ListN.{length}
+use Rattle.range.specs.Fold.{total, indicator}
+use Rattle.range.specs.Table.{table}
+use Rattle.field.specs.Symbols.{gf}
+use Rattle.field.specs.Symbols as symbols
+use Rattle.word.specs.Word.{nonzero, product}
+use Rattle.array.specs.Stored.{place, Sizes}
+
+-- the matrix m with `more k` added to each cell k
+unfoldable pub raised : List ℕ → (ℕ → ℕ) → List ℕ
+raised m more = table (length m) (λ k. place m k + more k)
+
+-- 1 where step i of a run of columns counts in cell k: the columns are those from `column` on, and the word v has their rows from place `from` on
+unfoldable pub stepCount : ℕ → List ℕ → ℕ → ℕ → ℕ → ℕ → ℕ
+stepCount n v from column k i = indicator (eqb (place v (from + i) * n + (column + i)) k)
+
+-- 1 where place h of a dual word counts in cell k: its symbol b there is not zero, and the check value of k's column is k's row. w is the product of the
+-- dual word and the received word
+unfoldable pub symbolCount : ℕ → ℕ → (ℕ → ℕ) → ℕ → ℕ → ℕ → ℕ
+symbolCount p n w b h k = indicator (nonzero b && eqb (symbols.product p (symbols.inverse p b) (w (k % n + h))) (k / n))
+
+-- how many places of the dual word b count in cell k
+unfoldable pub dualCount : ℕ → ℕ → (ℕ → ℕ) → (ℕ → ℕ) → ℕ → ℕ
+dualCount p n b r k = total n (λ h. symbolCount p n (product (gf p) n b r) (b h) h k)
+
+-- every cell is at most `most`
+pub record Room (m : List ℕ) (most : ℕ) : Type 0 where
+  pub cell : (k : ℕ) → place m k ≤ most
+
+-- what a run asks: it stays within the word and the columns, and the rows it names are in the matrix
+pub record Run (n : ℕ) (v : List ℕ) (from column steps : ℕ) (m : List ℕ) : Type 0 where
+  pub n-high : n ≤ 63
+  pub places : from + steps ≤ n
+  pub columns : column + steps ≤ n
+  pub rows : (j : ℕ) → j < n → place v j * n + n ≤ length m
+  pub room : Room m 65472
+
+-- what the layers above ask: the matrix has a cell for each symbol and column
+pub record Countable (p n : ℕ) (m : List ℕ) (most : ℕ) : Type 0 where
+  pub sizes : Sizes p n
+  pub size : length m ≡ 2 ^ p * n
+  pub room : Room m most

@@ -1,0 +1,62 @@
+-- `update::at_most` meets its contract. The invariant: `count` is the number of those below place j that are at most x.
+-- Assumes nothing.
+use Prim.Native.Nat.{_-_}
+use native.Mathlib.Omega.{arith}
+use lib.Dec.{leb}
+use Rattle.array.specs.Stored.{place}
+use Rattle.array.proofs.Counted.{Counted, counted-none, counted-more, counted-end}
+use Rattle.update.specs.Rule.{atMost}
+use Rattle.update.proofs.Counts.{counted-fits}
+use borrow.Author.Needs.{needs}
+use Rattle.update.proofs.at_most.Statement.{statement}
+use Rattle.update.proofs.at_most.Tie as tie
+
+abbrev Inv-loop : tie.InvT-loop
+Inv-loop n a x count₀ j₀ count j = Counted n (λ k. leb (place a k) x) j count
+
+abbrev μ-loop : tie.MeasureT-loop
+μ-loop n a x count₀ j₀ count j = n - j
+
+loop-holds : tie.Need-loop-holds Inv-loop μ-loop
+loop-holds c = counted-none _ _
+
+mul-count : tie.Need-mul-count Inv-loop μ-loop
+mul-count c = search needs
+
+shared-slice-read-count : tie.Need-shared-slice-read-count Inv-loop μ-loop
+shared-slice-read-count c = search needs
+
+cast-count : tie.Need-cast-count Inv-loop μ-loop
+cast-count c = search needs
+
+add-count : tie.Need-add-count Inv-loop μ-loop
+add-count c = search (needs, counted-fits (c .before .before .loop .inv))
+
+add-j : tie.Need-add-j Inv-loop μ-loop
+add-j c = search needs
+
+loop-less : tie.Need-loop-less Inv-loop μ-loop
+loop-less c = search needs
+
+loop-again : tie.Need-loop-again Inv-loop μ-loop
+loop-again c = counted-more (c .before .before .loop .inv) (omega arith)
+
+returns : tie.Need-returns Inv-loop μ-loop
+unfolding atMost
+returns c = counted-end (c .before .loop .inv) (omega arith) .0
+
+pub at-most-spec : {M : Type 1} → statement M
+at-most-spec =
+    tie.close
+    (tie.spec
+    Inv-loop
+    μ-loop
+    loop-holds
+    mul-count
+    shared-slice-read-count
+    cast-count
+    add-count
+    add-j
+    loop-less
+    loop-again
+    returns)

@@ -1,0 +1,19 @@
+-- The two counts of the update rule, and what they admit.
+-- Assumes nothing.
+use mathlib.Core.Bool.{cond, _&&_}
+use mathlib.Core.List.{List}
+use Prim.Native.Nat.{ℕ}
+use lib.Dec.{leb}
+use Rattle.range.specs.Fold.{count}
+use Rattle.array.specs.Stored.{place}
+
+-- how many of the first n numbers are at most x, and how many at least x
+unfoldable pub atMost : ℕ → List ℕ → ℕ → ℕ
+atMost n a x = count n (λ k. leb (place a k) x)
+
+unfoldable pub atLeast : ℕ → List ℕ → ℕ → ℕ
+atLeast n a x = count n (λ k. leb x (place a k))
+
+-- the symbol e where neither count passes `places`, else 0
+unfoldable pub admitted : ℕ → ℕ → ℕ → ℕ → ℕ
+admitted places low high e = cond (leb low places && leb high places) e 0

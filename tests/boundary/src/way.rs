@@ -1,0 +1,109 @@
+//! The ways of damage, so that a test can tell that it met every one.
+
+use reference::field::Field;
+use reference::word;
+
+use crate::draw::Book;
+
+/// All the ways in which a codebook can meet a condition.
+pub const WAYS: [&str; 31] = [
+    "1 empty",
+    "1 short",
+    "1 no dual word",
+    "1 odd",
+    "1 long",
+    "2 first",
+    "2 second",
+    "2 third",
+    "2 dual word",
+    "3 s",
+    "3 p",
+    "3 both",
+    "4 generator symbol",
+    "4 generator place",
+    "4 dual word symbol",
+    "4 dual word place",
+    "5 zero",
+    "5 degree",
+    "5 lead",
+    "5 divisor",
+    "6 I",
+    "6 D",
+    "6 both",
+    "7 first place 0",
+    "7 later place 0",
+    "7 first product",
+    "7 later product",
+    "7 first weight",
+    "7 later weight",
+    "8 added",
+    "8 replaced",
+];
+
+/// In which way an accepted codebook was damaged so that the condition holds.
+pub fn way(book: &Book, fault: u8, damaged: &[u8]) -> String {
+    let (n, q, l) = (book.parts.n(), book.parts.q(), book.parts.l());
+    let symbol = |body: &[u8]| body[..n].iter().any(|&symbol| symbol >= q);
+    let place = |body: &[u8]| body[n..].iter().any(|&byte| byte != 0);
+    let way = match fault {
+        1 => match damaged.len() {
+            0 => "empty",
+            70 => "no dual word",
+            1..134 => "short",
+            2119.. => "long",
+            _ => "odd",
+        },
+        2 => match (damaged[0], damaged[3], damaged[67]) {
+            (1, 2, 3) => "dual word",
+            (1, 2, _) => "third",
+            (1, _, _) => "second",
+            _ => "first",
+        },
+        3 => match ((2..=6).contains(&damaged[1]), damaged[2]) {
+            (true, _) => "p",
+            (false, 1..=6) => "s",
+            (false, _) => "both",
+        },
+        4 if symbol(&damaged[4..67]) => "generator symbol",
+        4 if place(&damaged[4..67]) => "generator place",
+        4 if bodies(damaged).any(symbol) => "dual word symbol",
+        4 => "dual word place",
+        5 => match word::degree(&damaged[4..67]) {
+            None => "zero",
+            Some(0) => "degree",
+            Some(lead) if damaged[4 + lead] != 1 => "lead",
+            Some(_) => "divisor",
+        },
+        6 => match ((1..=63).contains(&damaged[68]), damaged[69]) {
+            (true, _) => "D",
+            (false, d) if (1..=n).contains(&d.into()) => "I",
+            (false, _) => "both",
+        },
+        7 => return format!("7 {}", dual_word_way(book.parts.field(), n, damaged)),
+        _ if damaged.len() > 70 + 64 * l => "added",
+        _ => "replaced",
+    };
+    format!("{fault} {way}")
+}
+
+/// The bodies of the dual words.
+fn bodies(book: &[u8]) -> impl Iterator<Item = &[u8]> {
+    book[70..].chunks(64).map(|record| &record[1..])
+}
+
+/// Which of the conditions of a dual word fails, in the first one or in a
+/// later one. Of two weights either may be the wrong one: the later.
+fn dual_word_way(field: Field, n: usize, damaged: &[u8]) -> String {
+    let words: Vec<&[u8]> = bodies(damaged).map(|body| &body[..n]).collect();
+    let product = |b: &[u8]| word::weight(&word::product(field, b, &damaged[4..4 + n]));
+    let which = |index| if index == 0 { "first" } else { "later" };
+    if let Some(index) = words.iter().position(|b| b[0] != 1) {
+        return format!("{} place 0", which(index));
+    }
+    if let Some(index) = words.iter().position(|b| product(b) != 0) {
+        return format!("{} product", which(index));
+    }
+    let weights: Vec<usize> = words.iter().map(|b| word::weight(b)).collect();
+    let alike = weights[1..].iter().all(|&weight| weight == weights[1]);
+    format!("{} weight", which(usize::from(words.len() == 2 || !alike)))
+}

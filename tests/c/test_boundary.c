@@ -1,0 +1,356 @@
+/*
+ * The library called from C by its header alone: document 01's codebooks A, B and C, its cases, and the refusals of its table. It is C++ as well,
+ * since the header is.
+ *
+ * Every input ends where its block of memory ends, so that a memory checker sees a read beyond it. Every output lies between guards.
+ */
+#include "shiftsum.h"
+#include "shiftsum.h" /* A second time changes nothing. */
+
+#include <stdio.h>
+#include <stdlib.h>
+#include <string.h>
+
+enum { BOOK = 134, RECORD = 64, WORD_A = 7, MESSAGE_A = 4, LARGEST = 63, GUARD = 32 };
+
+/* Where the parts of a codebook lie. */
+enum { AT_KIND = 0, AT_S = 1, AT_P = 2, AT_G = 4, AT_I = 68, AT_D = 69, AT_DUAL_WORD = 71 };
+
+#define ZEROS_8 0, 0, 0, 0, 0, 0, 0, 0
+#define ZEROS_56 ZEROS_8, ZEROS_8, ZEROS_8, ZEROS_8, ZEROS_8, ZEROS_8, ZEROS_8
+
+/* s 3, p 1, g 1101, I 3, D 1, dual word 1110100. */
+static const uint8_t book_a[BOOK] = {
+    1, 3, 1,
+    2, 1, 1, 0, 1, 0, 0, 0, ZEROS_56,
+    3, 3, 1,
+    4, 1, 1, 1, 0, 1, 0, 0, ZEROS_56,
+};
+
+/* s 2, p 2, g 111, I 3, D 1, dual word 110. */
+static const uint8_t book_b[BOOK] = {
+    1, 2, 2,
+    2, 1, 1, 1, 0, 0, 0, 0, ZEROS_56,
+    3, 3, 1,
+    4, 1, 1, 0, 0, 0, 0, 0, ZEROS_56,
+};
+
+/* s 2, p 2, g 21, I 3, D 2, dual word 132. */
+static const uint8_t book_c[BOOK] = {
+    1, 2, 2,
+    2, 2, 1, 0, 0, 0, 0, 0, ZEROS_56,
+    3, 3, 2,
+    4, 1, 3, 2, 0, 0, 0, 0, ZEROS_56,
+};
+
+static unsigned long passed;
+static unsigned long failed;
+
+static void print_bytes(const char *what, const uint8_t *bytes, size_t len)
+{
+    size_t i;
+    printf("  %s", what);
+    for (i = 0; i < len; i++)
+        printf(" %02x", (unsigned)bytes[i]);
+    printf("\n");
+}
+
+static void expect_number(const char *name, const char *what, unsigned long found, unsigned long expected)
+{
+    if (found == expected) {
+        passed++;
+        return;
+    }
+    failed++;
+    printf("failed: %s: %s is %lu (%#lx), not %lu (%#lx)\n", name, what, found, found, expected, expected);
+}
+
+static void expect_bytes(const char *name, const char *what, const uint8_t *found, const uint8_t *expected, size_t len)
+{
+    if (memcmp(found, expected, len) == 0) {
+        passed++;
+        return;
+    }
+    failed++;
+    printf("failed: %s: %s\n", name, what);
+    print_bytes("found   ", found, len);
+    print_bytes("expected", expected, len);
+}
+
+static uint8_t *allocate(size_t len)
+{
+    uint8_t *block = (uint8_t *)malloc(len);
+    if (block == NULL) {
+        printf("no memory\n");
+        exit(2);
+    }
+    return block;
+}
+
+/* A copy that ends where its block ends; not null for no bytes either. */
+static uint8_t *lend(const uint8_t *bytes, size_t len)
+{
+    uint8_t *block = allocate(len + 1);
+    memcpy(block + 1, bytes, len);
+    return block + 1;
+}
+
+static void take_back(uint8_t *lent)
+{
+    free(lent - 1);
+}
+
+/* Symbols written as document 01 writes them, a digit each. */
+static size_t symbols(uint8_t *word, const char *digits)
+{
+    size_t len = 0;
+    for (; digits[len] != '\0'; len++)
+        word[len] = (uint8_t)(digits[len] - '0');
+    return len;
+}
+
+typedef uint32_t (*function)(const uint8_t *, size_t, const uint8_t *, size_t, uint8_t *, size_t);
+
+/* Calls, and compares result and output with what is expected; an output expected to be NULL must be as it was. */
+static void call(const char *name, function called, const uint8_t *book, size_t book_len, const uint8_t *input, size_t input_len,
+                 const uint8_t *output, size_t output_len, uint32_t result)
+{
+    uint8_t *lent_book = lend(book, book_len);
+    uint8_t *lent_input = lend(input, input_len);
+    uint8_t *block = allocate(GUARD + output_len + GUARD);
+    uint8_t *before = allocate(GUARD + output_len + GUARD);
+    uint8_t *written = block + GUARD;
+    memset(before, 0xa5, GUARD + output_len + GUARD);
+    memcpy(block, before, GUARD + output_len + GUARD);
+
+    expect_number(name, "the result", called(lent_book, book_len, lent_input, input_len, written, output_len), result);
+    expect_bytes(name, "the output", written, output == NULL ? before + GUARD : output, output_len);
+    expect_bytes(name, "the bytes before the output", block, before, GUARD);
+    expect_bytes(name, "the bytes after the output", written + output_len, before, GUARD);
+    expect_bytes(name, "the codebook after the call", lent_book, book, book_len);
+    expect_bytes(name, "the input after the call", lent_input, input, input_len);
+
+    take_back(lent_book);
+    take_back(lent_input);
+    free(block);
+    free(before);
+}
+
+/* The same with input and output as digits, for an accepted call. */
+static void gives(const char *name, function called, const uint8_t *book, const char *input, const char *output, uint32_t result)
+{
+    uint8_t in[LARGEST], out[LARGEST];
+    size_t in_len = symbols(in, input);
+    size_t out_len = symbols(out, output);
+    call(name, called, book, BOOK, in, in_len, out, out_len, result);
+}
+
+/* The same for a refused call. */
+static void refuses(const char *name, function called, const uint8_t *book, const char *input, size_t output_len, uint32_t number)
+{
+    uint8_t in[LARGEST];
+    size_t in_len = symbols(in, input);
+    call(name, called, book, BOOK, in, in_len, NULL, output_len, number);
+}
+
+/* The result of decode, put together from its parts. */
+static uint32_t decoded(char kind, unsigned rounds, unsigned changed)
+{
+    return (uint32_t)(unsigned char)kind << 24 | (uint32_t)rounds << 16 | (uint32_t)changed << 8;
+}
+
+static void decodes(const char *name, const uint8_t *book, const char *received, char kind, unsigned rounds, unsigned changed, const char *answer)
+{
+    uint8_t in[LARGEST], out[LARGEST];
+    size_t len = symbols(in, received);
+    uint32_t result = shiftsum_decode(book, BOOK, in, len, out, len);
+    expect_number(name, "the refusal", SHIFTSUM_REFUSAL(result), 0);
+    expect_number(name, "the kind", (unsigned char)SHIFTSUM_KIND(result), (unsigned char)kind);
+    expect_number(name, "the count of rounds", SHIFTSUM_ROUNDS(result), rounds);
+    expect_number(name, "the count of places changed", SHIFTSUM_CHANGED(result), changed);
+    gives(name, shiftsum_decode, book, received, answer, decoded(kind, rounds, changed));
+}
+
+static void codes(const char *name, const uint8_t *book, const char *message, const char *word)
+{
+    gives(name, shiftsum_code, book, message, word, 0);
+    gives(name, shiftsum_read, book, word, message, 0);
+}
+
+/* A copy of a codebook with one byte changed, good until the next one. */
+static const uint8_t *with(const uint8_t *book, size_t at, uint8_t byte)
+{
+    static uint8_t copy[BOOK];
+    memmove(copy, book, BOOK);
+    copy[at] = byte;
+    return copy;
+}
+
+static void test_macros(void)
+{
+    const uint32_t all = 0x4d3f2001u;
+    expect_number("macros", "the refusal", SHIFTSUM_REFUSAL(all), 1);
+    expect_number("macros", "the count of dual words", SHIFTSUM_DUAL_WORDS(all), 32);
+    expect_number("macros", "the count of places changed", SHIFTSUM_CHANGED(all), 32);
+    expect_number("macros", "the count of rounds", SHIFTSUM_ROUNDS(all), 63);
+    expect_number("macros", "the kind", (unsigned char)SHIFTSUM_KIND(all), SHIFTSUM_MENDED);
+    /* Of an expression, and with every bit of the others set. */
+    expect_number("macros", "the refusal", SHIFTSUM_REFUSAL(0xffffff00u | 12u), 12);
+    expect_number("macros", "the count of dual words", SHIFTSUM_DUAL_WORDS(0xffff00ffu | 0x100u), 1);
+    expect_number("macros", "the count of places changed", SHIFTSUM_CHANGED(0xffff00ffu | 0x3f00u), 63);
+    expect_number("macros", "the count of rounds", SHIFTSUM_ROUNDS(0xff00ffffu | 0x10000u), 1);
+    expect_number("macros", "the kind", (unsigned char)SHIFTSUM_KIND(0x00ffffffu | 0x58000000u), SHIFTSUM_SPENT);
+    expect_number("macros", "Clean", SHIFTSUM_CLEAN, 'C');
+    expect_number("macros", "Mended", SHIFTSUM_MENDED, 'M');
+    expect_number("macros", "Stalled", SHIFTSUM_STALLED, 'S');
+    expect_number("macros", "Spent", SHIFTSUM_SPENT, 'X');
+}
+
+static void test_check(void)
+{
+    uint8_t book[BOOK + RECORD];
+    uint8_t *lent = lend(book_a, BOOK);
+    uint32_t result = shiftsum_check(lent, BOOK);
+    expect_number("book A", "the refusal", SHIFTSUM_REFUSAL(result), 0);
+    expect_number("book A", "the count of dual words", SHIFTSUM_DUAL_WORDS(result), 1);
+    expect_number("book A", "the result", result, 0x100);
+    take_back(lent);
+    expect_number("book B", "the result", shiftsum_check(book_b, BOOK), 0x100);
+    expect_number("book C", "the result", shiftsum_check(book_c, BOOK), 0x100);
+    /* A second dual word: the first one turned by 4. */
+    memcpy(book, book_a, BOOK);
+    memcpy(book + BOOK, book_a + AT_DUAL_WORD - 1, RECORD);
+    symbols(book + BOOK + 1, "1001110");
+    expect_number("book A with two dual words", "the result", shiftsum_check(book, sizeof book), 0x200);
+}
+
+static void test_cases(void)
+{
+    codes("case 2", book_a, "1000", "1101000");
+    codes("case 3", book_a, "1100", "1011100");
+    codes("case 4", book_c, "01", "021");
+    decodes("case 6", book_a, "1000000", SHIFTSUM_MENDED, 1, 1, "0000000");
+    decodes("case 7", book_a, "1100000", SHIFTSUM_MENDED, 1, 1, "1101000");
+    decodes("case 8", with(book_a, AT_D, 6), "1000000", SHIFTSUM_MENDED, 1, 1, "0000000");
+    decodes("case 9", with(book_a, AT_D, 7), "1000000", SHIFTSUM_SPENT, 3, 0, "1000000");
+    decodes("case 10", book_b, "311", SHIFTSUM_MENDED, 1, 1, "111");
+    decodes("case 11", book_b, "120", SHIFTSUM_STALLED, 1, 0, "120");
+    decodes("case 12", book_b, "132", SHIFTSUM_STALLED, 1, 0, "132");
+    decodes("case 13", book_c, "100", SHIFTSUM_STALLED, 1, 0, "100");
+    decodes("case 14", with(book_c, AT_D, 3), "100", SHIFTSUM_MENDED, 1, 3, "032");
+    decodes("the program's third word", book_a, "1101000", SHIFTSUM_CLEAN, 0, 0, "1101000");
+}
+
+/* A refused codebook is refused by every function, whatever the call is else. */
+static void refused(const char *name, const uint8_t *book, size_t book_len, uint32_t number)
+{
+    uint8_t message[MESSAGE_A], word[WORD_A], bad[WORD_A];
+    uint8_t *lent = lend(book, book_len);
+    symbols(message, "1000");
+    symbols(word, "1101000");
+    symbols(bad, "2000000");
+    expect_number(name, "the result of check", shiftsum_check(lent, book_len), number);
+    expect_bytes(name, "the codebook after check", lent, book, book_len);
+    take_back(lent);
+    call(name, shiftsum_code, book, book_len, message, MESSAGE_A, NULL, WORD_A, number);
+    call(name, shiftsum_read, book, book_len, word, WORD_A, NULL, MESSAGE_A, number);
+    call(name, shiftsum_decode, book, book_len, word, WORD_A, NULL, WORD_A, number);
+    call(name, shiftsum_decode, book, book_len, bad, WORD_A - 1, NULL, WORD_A + 1, number);
+    call(name, shiftsum_code, book, book_len, message, 0, NULL, 0, number);
+}
+
+static void test_refused_codebooks(void)
+{
+    uint8_t book[BOOK + RECORD];
+    refused("refusal 1: 133 bytes", book_a, 133, 1);
+    refused("refusal 1: no bytes", book_a, 0, 1);
+    refused("refusal 2: first byte 2", with(book_a, AT_KIND, 2), BOOK, 2);
+    refused("refusal 3: s 3, p 2", with(book_a, AT_P, 2), BOOK, 3);
+    refused("refusal 3: s 7", with(book_a, AT_S, 7), BOOK, 3);
+    refused("refusal 4: g 1201", with(book_a, AT_G + 1, 2), BOOK, 4);
+    refused("refusal 4: place n of the dual word", with(book_a, AT_DUAL_WORD + WORD_A, 1), BOOK, 4);
+    memcpy(book, book_a, BOOK);
+    symbols(book + AT_G, "1010");
+    refused("refusal 5: g 101", book, BOOK, 5);
+    refused("refusal 6: D 8", with(book_a, AT_D, 8), BOOK, 6);
+    refused("refusal 6: I 64", with(book_a, AT_I, 64), BOOK, 6);
+    memcpy(book, book_a, BOOK);
+    symbols(book + AT_DUAL_WORD, "1101000");
+    refused("refusal 7: dual word 1101000", book, BOOK, 7);
+    memcpy(book, book_a, BOOK);
+    memcpy(book + BOOK, book_a + AT_DUAL_WORD - 1, RECORD);
+    refused("refusal 8: the dual word twice", book, sizeof book, 8);
+    /* Of two the smaller. */
+    book[AT_D] = 8;
+    refused("refusals 6 and 8", book, sizeof book, 6);
+    book[AT_P] = 2;
+    refused("refusals 3, 6 and 8", book, sizeof book, 3);
+}
+
+static void test_refused_calls(void)
+{
+    refuses("refusal 9: code 5 symbols", shiftsum_code, book_a, "10000", WORD_A, 9);
+    refuses("refusal 9: code no symbols", shiftsum_code, book_a, "", WORD_A, 9);
+    refuses("refusal 9: read 6 symbols", shiftsum_read, book_a, "110100", MESSAGE_A, 9);
+    refuses("refusal 9: decode 8 symbols", shiftsum_decode, book_a, "11010000", WORD_A, 9);
+    refuses("refusal 9: decode no symbols", shiftsum_decode, book_a, "", WORD_A, 9);
+    refuses("refusal 10: a word of 6", shiftsum_code, book_a, "1000", 6, 10);
+    refuses("refusal 10: a word of 8", shiftsum_code, book_a, "1000", 8, 10);
+    refuses("refusal 10: a message of 3", shiftsum_read, book_a, "1101000", 3, 10);
+    refuses("refusal 10: a message of 7", shiftsum_read, book_a, "1101000", 7, 10);
+    refuses("refusal 10: an answer of 6", shiftsum_decode, book_a, "1000000", 6, 10);
+    refuses("refusal 10: an answer of 0", shiftsum_decode, book_a, "1000000", 0, 10);
+    refuses("refusal 10: an answer of 63", shiftsum_decode, book_a, "1000000", LARGEST, 10);
+    refuses("refusal 11: code 0002", shiftsum_code, book_a, "0002", WORD_A, 11);
+    refuses("refusal 11: read 2000000", shiftsum_read, book_a, "2000000", MESSAGE_A, 11);
+    refuses("refusal 11: decode 2000000", shiftsum_decode, book_a, "2000000", WORD_A, 11);
+    refuses("refusal 11: decode 114", shiftsum_decode, book_b, "114", 3, 11);
+    refuses("refusal 12: read 1000000", shiftsum_read, book_a, "1000000", MESSAGE_A, 12);
+    refuses("refusal 12: read 120", shiftsum_read, book_b, "120", 1, 12);
+    /* Of two the smaller. */
+    refuses("refusals 9, 10 and 11", shiftsum_decode, book_a, "20000000", 6, 9);
+    refuses("refusals 10 and 11", shiftsum_code, book_a, "2000", 6, 10);
+    refuses("refusals 10 and 12", shiftsum_read, book_a, "1000000", 5, 10);
+}
+
+/* n 63 over GF(64): g is x + 1, so that place j of a code word is the sum of places j and j - 1 of the message. */
+static void test_largest(void)
+{
+    uint8_t book[BOOK] = {1, 6, 6, 2, 1, 1};
+    uint8_t message[LARGEST - 1], word[LARGEST], received[LARGEST], answer[LARGEST];
+    size_t j;
+    book[67] = 3;
+    book[AT_I] = 63;
+    book[AT_D] = 63;
+    book[AT_DUAL_WORD - 1] = 4;
+    memset(book + AT_DUAL_WORD, 1, LARGEST);
+    for (j = 0; j < LARGEST - 1; j++)
+        message[j] = (uint8_t)(63 - j);
+    for (j = 0; j < LARGEST; j++)
+        word[j] = (uint8_t)((j < LARGEST - 1 ? message[j] : 0) ^ (j > 0 ? message[j - 1] : 0));
+    expect_number("n 63", "the result of check", shiftsum_check(book, BOOK), 0x100);
+    call("n 63, code", shiftsum_code, book, BOOK, message, LARGEST - 1, word, LARGEST, 0);
+    call("n 63, read", shiftsum_read, book, BOOK, word, LARGEST, message, LARGEST - 1, 0);
+    call("n 63, decode a code word", shiftsum_decode, book, BOOK, word, LARGEST, word, LARGEST, decoded(SHIFTSUM_CLEAN, 0, 0));
+    /* Every check value is the sum of all symbols, which is the error; so it is subtracted at all 63 places, and the sum is 0 then. */
+    memcpy(received, word, LARGEST);
+    received[17] ^= 42;
+    for (j = 0; j < LARGEST; j++)
+        answer[j] = received[j] ^ 42;
+    call("n 63, decode an error", shiftsum_decode, book, BOOK, received, LARGEST, answer, LARGEST, decoded(SHIFTSUM_MENDED, 1, 63));
+    call("n 63, read an error", shiftsum_read, book, BOOK, received, LARGEST, NULL, LARGEST - 1, 12);
+    received[62] = 64;
+    call("n 63, decode a bad symbol", shiftsum_decode, book, BOOK, received, LARGEST, NULL, LARGEST, 11);
+}
+
+int main(void)
+{
+    test_macros();
+    test_check();
+    test_cases();
+    test_refused_codebooks();
+    test_refused_calls();
+    test_largest();
+    printf("%lu passed, %lu failed\n", passed, failed);
+    return failed == 0 ? 0 : 1;
+}
