@@ -1,4 +1,5 @@
--- What a result of decoding says: its rounds are at most I; a Clean or Mended answer is a code word, any other is the word as received; the matrix is whole.
+-- What a result of decoding says: its rounds are at most I; a Clean or Mended answer is a code word, any other is the word as received; the matrix is whole;
+-- changed counts the places where answer and received word differ.
 -- Assumes nothing.
 use mathlib.Core.Path.{_≡_, refl}
 use mathlib.Core.Bool.{Bool, true, false, cond}
@@ -9,7 +10,7 @@ use lib.Dec.{T}
 use lib.ListN.{length}
 use Rattle.range.specs.Table.{table}
 use Rattle.field.specs.Field.{FieldOps}
-use Rattle.word.specs.Word.{at}
+use Rattle.word.specs.Word.{at, distance}
 use Rattle.book.specs.Book.{Book, isCodeWord}
 use Rattle.decoding.specs.Matrix.{cell}
 use Rattle.decoding.specs.Decode.{Kind, Result, choose, emptyUpdateSet, corrected, result, zeroMatrix, run, decodeWith, clean, mended, stalled, spent}
@@ -31,6 +32,7 @@ module _ (F : FieldOps) (B : Book) where
     pub says : Says r (x .kind) (x .answer)
     pub rounds-le : x .rounds ≤ most
     pub whole : length (x .entries) ≡ q * n
+    pub changed-is : x .changed ≡ distance n (at n (x .answer)) (at n r)
 
   module _ (make : (ℕ → ℕ) → List ℕ) (make-length : (w : ℕ → ℕ) → length (make w) ≡ q * n) (r : List ℕ) where
     step : {most : ℕ} (a b : Bool) {x y z : Result} → Sound r most x → (T b → Sound r most y) → Sound r most z → Sound r most (choose a b x y z)
@@ -40,11 +42,11 @@ module _ (F : FieldOps) (B : Book) where
 
     run-sound : (most left made : ℕ) (w m : List ℕ) → left + made ≤ most → length m ≡ q * n → Sound r most (run F B make left made r w m)
     unfolding run
-    run-sound most zero made w m l h = record { says = refl; rounds-le = omega arith; whole = h }
+    run-sound most zero made w m l h = record { says = refl; rounds-le = omega arith; whole = h; changed-is = refl }
     run-sound most (suc left) made w m l h =
         step (emptyUpdateSet F B (cell F B (make (at n w)))) (isCodeWord F B (at n (corrected F B w (make (at n w)))))
-        (record { says = refl; rounds-le = omega arith; whole = make-length (at n w) })
-        (λ t. record { says = t; rounds-le = omega arith; whole = make-length (at n w) })
+        (record { says = refl; rounds-le = omega arith; whole = make-length (at n w); changed-is = refl })
+        (λ t. record { says = t; rounds-le = omega arith; whole = make-length (at n w); changed-is = refl })
         (run-sound most left (suc made) (corrected F B w (make (at n w))) (make (at n w)) (omega arith) (make-length (at n w)))
 
     pub decode-sound : Sound r most-rounds (decodeWith F B make r)
@@ -56,5 +58,5 @@ module _ (F : FieldOps) (B : Book) where
 
         go : (b : Bool) → (T b → T (isCodeWord F B (at n r)))
             → Sound r most-rounds (cond b (result F B clean 0 r r zeros) (run F B make most-rounds 0 r r zeros))
-        go true t = record { says = (t tt, refl); rounds-le = omega arith; whole = table-length (q * n) (λ k. 0) }
+        go true t = record { says = (t tt, refl); rounds-le = omega arith; whole = table-length (q * n) (λ k. 0); changed-is = refl }
         go false t = run-sound most-rounds most-rounds 0 r zeros (omega arith) (table-length (q * n) (λ k. 0))

@@ -1,6 +1,6 @@
 -- What a dual word counts: one product of words serves all its places.
 -- Assumes nothing.
-use mathlib.Core.Path.{_≡_, sym, ap, ap₂, _∙_, fun-ext, subst}
+use mathlib.Core.Path.{_≡_, sym, ap₂, _∙_, fun-ext, subst}
 use mathlib.Core.Bool.{_&&_}
 use mathlib.Core.List.{List}
 use Prim.Native.Nat.{ℕ, _+_, _*_, _/_, _%_, _^_, _≤_, _<_}
@@ -19,18 +19,18 @@ use Rattle.word.proofs.Place.{at-lt, at-period, period-mod}
 use Rattle.word.proofs.Product.{product-below, product-period}
 use Rattle.array.specs.Stored.{place, Sizes, Stored}
 use Rattle.array.proofs.Filled.{read-padded}
-use Rattle.matrix.specs.Count.{symbolCount, dualCount}
+use Rattle.matrix.specs.Count.{symbolAdds, dualAdds}
 
 -- a place counts at most once
-pub places-le : (p n : ℕ) (w b : ℕ → ℕ) (i k : ℕ) → total i (λ h. symbolCount p n w (b h) h k) ≤ i
-unfolding symbolCount
+pub places-le : (p n : ℕ) (w b : ℕ → ℕ) (i k : ℕ) → total i (λ h. symbolAdds p n w (b h) h k) ≤ i
+unfolding symbolAdds
 places-le p n w b i k = count-le i (λ h. nonzero (b h) && eqb (symbols.product p (symbols.inverse p (b h)) (w (k % n + h))) (k / n))
 
-dual-le : (p n : ℕ) (b r : ℕ → ℕ) (k : ℕ) → dualCount p n b r k ≤ n
-unfolding dualCount
+dual-le : (p n : ℕ) (b r : ℕ → ℕ) (k : ℕ) → dualAdds p n b r k ≤ n
+unfolding dualAdds
 dual-le p n b r k = places-le p n (product (gf p) n b r) b n k
 
-pub duals-le : (p n : ℕ) (b : ℕ → ℕ → ℕ) (r : ℕ → ℕ) (i k : ℕ) → n ≤ 63 → total i (λ l. dualCount p n (b l) r k) ≤ i * 63
+pub duals-le : (p n : ℕ) (b : ℕ → ℕ → ℕ) (r : ℕ → ℕ) (i k : ℕ) → n ≤ 63 → total i (λ l. dualAdds p n (b l) r k) ≤ i * 63
 duals-le p n b r i k h = fold-le i 63 _ (λ l _. le-trans (dual-le p n (b l) r k) h)
 
 module _ {p n : ℕ} (s : Sizes p n) (b r : List ℕ) {w : List ℕ} (e : w ≡ padded 63 n (product (gf p) n (at n b) (at n r))) where
@@ -47,7 +47,7 @@ module _ {p n : ℕ} (s : Sizes p n) (b r : List ℕ) {w : List ℕ} (e : w ≡ 
       read-padded _ e (s .n-high) (mod-lt j (s .n-low))
       ∙ period-mod n (product (gf p) n (at n b) (at n r)) (product-period (gf p) laws n (at n b) (at n r) (at-period n r)) j
 
-  pub dual-counted : (k : ℕ) → total n (λ h. symbolCount p n (at n w) (place b h) h k) ≡ dualCount p n (at n b) (at n r) k
-  unfolding dualCount
+  pub dual-counted : (k : ℕ) → total n (λ h. symbolAdds p n (at n w) (place b h) h k) ≡ dualAdds p n (at n b) (at n r) k
+  unfolding dualAdds
   dual-counted k =
-      fold-cong _+_ 0 n (λ h l. ap₂ (λ (w : ℕ → ℕ) (x : ℕ). symbolCount p n w x h k) (fun-ext product-at) (sym (at-lt n b l)))
+      fold-cong _+_ 0 n (λ h l. ap₂ (λ (w : ℕ → ℕ) (x : ℕ). symbolAdds p n w x h k) (fun-ext product-at) (sym (at-lt n b l)))

@@ -1,7 +1,7 @@
 -- Numbers added to the cells of a matrix, once and again: what a loop keeps that adds one term after another.
 -- Assumes nothing.
-use mathlib.Core.Path.{_≡_, refl, sym, ap, ap₂, _∙_, subst}
-use mathlib.Core.Bool.{Bool, cond}
+use mathlib.Core.Path.{_≡_, refl, sym, ap, _∙_, subst}
+use mathlib.Core.Bool.{Bool}
 use mathlib.Core.List.{List}
 use Prim.Native.Nat.{ℕ, zero, suc, _+_, _*_, _^_, _≤_, _<_, zero-le}
 use native.Mathlib.Nat.{add-zero, zero-add, add-assoc, le-of-eq, le-trans}
@@ -9,7 +9,7 @@ use native.Mathlib.Decide.{decLt, ℕ-discrete}
 use native.Mathlib.Omega.{arith}
 use borrow.Author.Tests.{eq-eqb, ne-eqb}
 use lib.Dec.{eqb}
-use lib.ListN.{length, getD, set, length-set, List·getD-eq-default}
+use lib.ListN.{length, set, length-set, List·getD-eq-default}
 use lib.Seq.{getD-set-same, getD-set-other, ext-getD}
 use Rattle.range.specs.Fold.{total, indicator}
 use Rattle.range.specs.Table.{table}
@@ -18,7 +18,7 @@ use Rattle.range.proofs.Loop.{fold-none, fold-more}
 use Rattle.array.specs.Stored.{place, Sizes}
 use Rattle.matrix.specs.Count.{raised, Room, Countable}
 
-pub raised-length : (m : List ℕ) (f : ℕ → ℕ) → length (raised m f) ≡ length m
+raised-length : (m : List ℕ) (f : ℕ → ℕ) → length (raised m f) ≡ length m
 unfolding raised
 raised-length m f = table-length (length m) _
 
@@ -70,6 +70,9 @@ module _ (m₀ m : List ℕ) (f : ℕ → ℕ) (e : m ≡ raised m₀ f) where
       go k (yes d) = le-trans (le-of-eq (ap (λ (x : List ℕ). place x k) e ∙ raised-at m₀ f d)) (omega (arith, room .cell k, h k))
       go k (no d) = le-trans (le-of-eq (List·getD-eq-default m 0 (omega (arith, raised-long)))) zero-le
 
+  pub raised-countable : {p n b : ℕ} (t c : ℕ) → Countable p n m₀ b → ((k : ℕ) → f k ≤ t) → b + t ≤ c → Countable p n m c
+  raised-countable t c ok h l = record { sizes = ok .sizes; size = raised-long ∙ ok .size; room = raised-room t c (ok .room) h l }
+
 -- ---- a matrix of zeros
 
 zeros : (n k : ℕ) → place (table n (λ k. 0)) k ≡ 0
@@ -114,7 +117,3 @@ module _ {n : ℕ} {term : ℕ → ℕ → ℕ} {m₀ m : List ℕ} {i : ℕ} (h
 
   pub adding-end : n ≤ i → m ≡ raised m₀ (λ k. total n (term k))
   adding-end l = subst (λ (i : ℕ). m ≡ raised m₀ (λ k. total i (term k))) (omega arith) (h .added)
-
-  pub adding-countable : {p w b : ℕ} (t c : ℕ) → Countable p w m₀ b → ((k : ℕ) → total i (term k) ≤ t) → b + t ≤ c → Countable p w m c
-  adding-countable t c ok le l =
-      record { sizes = ok .sizes; size = adding-long ∙ ok .size; room = raised-room m₀ m _ (h .added) t c (ok .room) le l }

@@ -1,12 +1,12 @@
 -- The whole matrix: the dual words of an accepted book are where the loop reads them, and what they count is the matrix.
 -- Assumes nothing.
 use mathlib.Core.Path.{_≡_, sym, ap, _∙_, fun-ext, subst}
-use mathlib.Core.Bool.{Bool, cond, _&&_}
+use mathlib.Core.Bool.{_&&_}
 use mathlib.Core.List.{List}
 use Prim.Native.Nat.{ℕ, _+_, _*_, _/_, _%_, _^_, _≤_, _<_}
 use native.Mathlib.Nat.{mod-lt}
 use native.Mathlib.Omega.{arith}
-use lib.Dec.{T, eqb, leb, eqb→eq, leb→le}
+use lib.Dec.{eqb, eqb→eq, leb→le}
 use lib.ListN.{length}
 use Rattle.range.specs.Fold.{total, indicator}
 use Rattle.range.specs.Table.{table, padded}
@@ -20,21 +20,20 @@ use Rattle.word.specs.Word.{at, nonzero}
 use Rattle.word.proofs.Place.{at-lt}
 use Rattle.array.specs.Stored.{place, Sizes, Stored}
 use Rattle.array.proofs.Filled.{read-padded}
-use Rattle.book.specs.Book.{Book, Accepted}
-use Rattle.book.specs.Layout.{width, dualAt, symbolDigits, wordLength, fieldOf, bookOf}
-use Rattle.book.specs.Layout as layout
+use Rattle.book.specs.Book.{Book}
+use Rattle.book.specs.Layout.{width, dualAt, dualCount, symbolDigits, fieldOf, bookOf}
 use Rattle.book.specs.Conditions.{lengthOk}
 use Rattle.book.proofs.Sound.{sound}
 use Rattle.book.proofs.Accepting.{accepted}
 use Rattle.decoding.specs.Matrix.{checkValue, entryOf, matrixOf, matrix}
 use Rattle.decoding.proofs.Matrix.{check-product}
-use Rattle.matrix.specs.Count.{symbolCount, dualCount}
+use Rattle.matrix.specs.Count.{symbolAdds, dualAdds}
 use Rattle.matrix.specs.Fill.{Fillable}
 
 -- the matrix by what each dual word counts
 by-duals : (p : ℕ) → FieldLaws (gf p) → (B : Book) (r : ℕ → ℕ)
-    → table (2 ^ p * B .n) (λ k. total (B .dual-count) (λ l. dualCount p (B .n) (B .dual l) r k)) ≡ matrix (gf p) B r
-unfolding matrixOf entryOf checkValue dualCount symbolCount
+    → table (2 ^ p * B .n) (λ k. total (B .dual-count) (λ l. dualAdds p (B .n) (B .dual l) r k)) ≡ matrix (gf p) B r
+unfolding matrixOf entryOf checkValue dualAdds symbolAdds
 by-duals p laws B r =
     table-same (2 ^ p * B .n) (λ k _. fold-cong _+_ 0 (B .dual-count) (λ l _. fold-cong _+_ 0 (B .n) (λ h _.
     ap (λ (x : ℕ). indicator (nonzero (B .dual l h) && eqb (gf p .mul (gf p .inv (B .dual l h)) x) (k / B .n)))
@@ -55,13 +54,15 @@ module _ {bytes : List ℕ} {p n duals : ℕ} (ok : Fillable bytes p n duals) wh
   unfolding lengthOk
   dual-within {l} h =
       let t = sound width bytes (ok .accepted) .length-ok in
-      let e : length bytes ≡ dualAt width (layout.dualCount width (length bytes)) = eqb→eq _ _ (search (and-left, and-right) depth 5) in
+      let e : length bytes ≡ dualAt width (dualCount width (length bytes)) = eqb→eq _ _ (search (and-left, and-right) depth 5) in
       omega (arith, ok .duals-is, fill-sizes .n-high)
 
   module _ {l : ℕ} (h : l < duals) {b : List ℕ} (e : b ≡ padded 63 n (λ j. place bytes (71 + 64 * l + j))) where
     pub dual-read : at n b ≡ bookOf width bytes .dual l
     unfolding bookOf at
-    dual-read = fun-ext (λ j. read-padded _ e (fill-sizes .n-high) (mod-lt j (fill-sizes .n-low)) ∙ ap (place bytes) (omega (arith, ap (λ (x : ℕ). j % x) (ok .n-is))))
+    dual-read =
+        fun-ext (λ j.
+        read-padded _ e (fill-sizes .n-high) (mod-lt j (fill-sizes .n-low)) ∙ ap (place bytes) (omega (arith, ap (λ (x : ℕ). j % x) (ok .n-is))))
 
     pub dual-stored : Stored p n b
     unfolding bookOf
@@ -72,7 +73,8 @@ module _ {bytes : List ℕ} {p n duals : ℕ} (ok : Fillable bytes p n duals) wh
               (rw (ok .p-is) (accepted width (omega arith) bytes (ok .accepted) .1 .dual-symbols l (rw (ok .duals-is) at h) j));
         }
 
-  pub all-duals : (r : ℕ → ℕ) → table (2 ^ p * n) (λ k. total duals (λ l. dualCount p n (bookOf width bytes .dual l) r k)) ≡ matrix (fieldOf bytes) (bookOf width bytes) r
+  pub all-duals : (r : ℕ → ℕ)
+      → table (2 ^ p * n) (λ k. total duals (λ l. dualAdds p n (bookOf width bytes .dual l) r k)) ≡ matrix (fieldOf bytes) (bookOf width bytes) r
   unfolding bookOf
   all-duals r =
       let s = accepted width (omega arith) bytes (ok .accepted) .0 in

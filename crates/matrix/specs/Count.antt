@@ -18,17 +18,17 @@ unfoldable pub raised : List ℕ → (ℕ → ℕ) → List ℕ
 raised m more = table (length m) (λ k. place m k + more k)
 
 -- 1 where step i of a run of columns counts in cell k: the columns are those from `column` on, and the word v has their rows from place `from` on
-unfoldable pub stepCount : ℕ → List ℕ → ℕ → ℕ → ℕ → ℕ → ℕ
-stepCount n v from column k i = indicator (eqb (place v (from + i) * n + (column + i)) k)
+unfoldable pub stepAdds : ℕ → List ℕ → ℕ → ℕ → ℕ → ℕ → ℕ
+stepAdds n v from column k i = indicator (eqb (place v (from + i) * n + (column + i)) k)
 
 -- 1 where place h of a dual word counts in cell k: its symbol b there is not zero, and the check value of k's column is k's row. w is the product of the
 -- dual word and the received word
-unfoldable pub symbolCount : ℕ → ℕ → (ℕ → ℕ) → ℕ → ℕ → ℕ → ℕ
-symbolCount p n w b h k = indicator (nonzero b && eqb (symbols.product p (symbols.inverse p b) (w (k % n + h))) (k / n))
+unfoldable pub symbolAdds : ℕ → ℕ → (ℕ → ℕ) → ℕ → ℕ → ℕ → ℕ
+symbolAdds p n w b h k = indicator (nonzero b && eqb (symbols.product p (symbols.inverse p b) (w (k % n + h))) (k / n))
 
 -- how many places of the dual word b count in cell k
-unfoldable pub dualCount : ℕ → ℕ → (ℕ → ℕ) → (ℕ → ℕ) → ℕ → ℕ
-dualCount p n b r k = total n (λ h. symbolCount p n (product (gf p) n b r) (b h) h k)
+unfoldable pub dualAdds : ℕ → ℕ → (ℕ → ℕ) → (ℕ → ℕ) → ℕ → ℕ
+dualAdds p n b r k = total n (λ h. symbolAdds p n (product (gf p) n b r) (b h) h k)
 
 -- every cell is at most `most`
 pub record Room (m : List ℕ) (most : ℕ) : Type 0 where
@@ -40,9 +40,9 @@ pub record Run (n : ℕ) (v : List ℕ) (from column steps : ℕ) (m : List ℕ)
   pub places : from + steps ≤ n
   pub columns : column + steps ≤ n
   pub rows : (j : ℕ) → j < n → place v j * n + n ≤ length m
-  pub room : Room m 65472
+  pub room : Room m 65400
 
--- what the layers above ask: the matrix has a cell for each symbol and column
+-- what the layers above ask: the matrix has a cell for each symbol and column, with room left for what they add (at most 63 for a dual word)
 pub record Countable (p n : ℕ) (m : List ℕ) (most : ℕ) : Type 0 where
   pub sizes : Sizes p n
   pub size : length m ≡ 2 ^ p * n

@@ -1,6 +1,6 @@
 // The frequency matrix of a word, counted into a lent buffer of q * n numbers: entry (i, j) at i * n + j.
 ghost use mathlib.Core.Path.{_≡_};
-ghost use Prim.Native.Nat.{_+_, _*_, _^_, _<_, _≤_};
+ghost use Prim.Native.Nat.{_*_, _^_, _<_};
 ghost use lib.ListN.{length};
 ghost use Rattle.range.specs.Fold.{total};
 ghost use Rattle.range.specs.Table.{table, padded};
@@ -9,7 +9,7 @@ ghost use Rattle.word.specs.Word.{at};
 ghost use Rattle.array.specs.Stored.{place, Sizes, Stored};
 ghost use Rattle.book.specs.Layout.{width, fieldOf, bookOf};
 ghost use Rattle.decoding.specs.Matrix.{matrix};
-ghost use Rattle.matrix.specs.Count.{raised, stepCount, symbolCount, dualCount, Run, Countable};
+ghost use Rattle.matrix.specs.Count.{raised, stepAdds, symbolAdds, dualAdds, Run, Countable};
 ghost use Rattle.matrix.specs.Fill.{Fillable};
 
 // Sets every entry to 0.
@@ -48,7 +48,7 @@ fn wide(x: u8) -> usize
 // Counts a run of columns: for each i below `steps`, the entry in column `column + i` whose row is the word's symbol at `from + i`.
 fn count_run(n: usize, v: [u8; 63], from: usize, column: usize, steps: usize, m: &mut [u16])
     requires { ⌜ Run n v from column steps (now m) ⌝ }
-    ensures { λ _. ⌜ now (m .exit) ≡ raised (now (m .entry)) (λ k. total steps (stepCount n v from column k)) ⌝ }
+    ensures { λ _. ⌜ now (m .exit) ≡ raised (now (m .entry)) (λ k. total steps (stepAdds n v from column k)) ⌝ }
 {
     let mut i = 0;
     while i < steps {
@@ -61,13 +61,14 @@ fn count_run(n: usize, v: [u8; 63], from: usize, column: usize, steps: usize, m:
 // Counts place h of a dual word whose symbol there is b: nothing where b is 0, else in each column j the product of b's inverse and w's symbol at
 // (j + h) mod n. w is the product of the dual word and the received word. The columns below n - h have j + h, the others j + h - n.
 fn count_symbol(p: u8, n: usize, w: [u8; 63], b: u8, h: usize, m: &mut [u16])
-    requires { ⌜ Countable p n (now m) 65409 × Stored p n w × (b < 2 ^ p) × (h < n) ⌝ }
-    ensures { λ _. ⌜ now (m .exit) ≡ raised (now (m .entry)) (symbolCount p n (at n w) b h) ⌝ }
+    requires { ⌜ Countable p n (now m) 65300 × Stored p n w × (b < 2 ^ p) × (h < n) ⌝ }
+    ensures { λ _. ⌜ now (m .exit) ≡ raised (now (m .entry)) (symbolAdds p n (at n w) b h) ⌝ }
 {
     if b == 0 {
         return;
     }
-    let v = scale(p, n, field::inv(p, b), w);
+    let c = field::inv(p, b);
+    let v = scale(p, n, c, w);
     let rest = n - h;
     count_run(n, v, h, 0, rest, m);
     count_run(n, v, 0, rest, h, m);
@@ -75,8 +76,8 @@ fn count_symbol(p: u8, n: usize, w: [u8; 63], b: u8, h: usize, m: &mut [u16])
 
 // Counts every place of the dual word b: one product of words serves them all.
 fn count_dual(p: u8, n: usize, b: [u8; 63], r: [u8; 63], m: &mut [u16])
-    requires { ⌜ Countable p n (now m) 65346 × Stored p n b × Stored p n r ⌝ }
-    ensures { λ _. ⌜ now (m .exit) ≡ raised (now (m .entry)) (dualCount p n (at n b) (at n r)) ⌝ }
+    requires { ⌜ Countable p n (now m) 65200 × Stored p n b × Stored p n r ⌝ }
+    ensures { λ _. ⌜ now (m .exit) ≡ raised (now (m .entry)) (dualAdds p n (at n b) (at n r)) ⌝ }
 {
     let w = array::cyclic_product(p, n, b, r);
     let mut h = 0;

@@ -1,14 +1,14 @@
 -- The peaks of a matrix of q rows of n entries, as the loop over the rows has them at row i.
 -- Assumes nothing.
-use mathlib.Core.Path.{_≡_, sym, ap₂, _∙_, subst}
+use mathlib.Core.Path.{_≡_, sym, ap, ap₂, _∙_, subst}
 use mathlib.Core.List.{List}
-use Prim.Native.Nat.{ℕ, zero, suc, _+_, _-_, _*_, max, _≤_, _<_}
-use native.Mathlib.Nat.{le-refl, suc-mul, mul-le-mul-right, not-suc-le-zero}
+use Prim.Native.Nat.{ℕ, zero, suc, pred, _+_, _-_, _*_, max, _≤_, _<_}
+use native.Mathlib.Nat.{suc-mul, mul-le-mul-right, not-suc-le-zero}
 use native.Mathlib.Numerals.{add-one}
 use native.Mathlib.Omega.{arith}
 use lib.ListN.{length, take, drop, replicate, length-take, length-drop, length-replicate}
 use lib.Seq.{getD-take, getD-drop}
-use Rattle.range.specs.Fold.{fold}
+use Rattle.range.specs.Fold.{fold, largest}
 use Rattle.range.proofs.Loop.{zero-at, fold-none}
 use Rattle.array.specs.Stored.{place}
 use Rattle.update.specs.Column.{Sole, none, column, Peaked, Taken}
@@ -21,16 +21,17 @@ pub record Climbing (q n : ℕ) (m : List ℕ) (i : ℕ) (counts symbols : List 
   pub symbols-long : length symbols ≡ 63
   pub peaked : Peaked n m i counts symbols
 
-pub climbing-none : {q n : ℕ} {m : List ℕ} → 1 ≤ q → Climbing q n m 1 (replicate 63 0) (replicate 63 0)
-climbing-none {n = n} {m = m} l =
+-- no row is taken
+pub climbing-none : {q n i : ℕ} {m : List ℕ} → i ≡ 1 → 1 ≤ q → Climbing q n m i (replicate 63 0) (replicate 63 0)
+climbing-none {q} {n} {i} {m} e l =
     record {
-      first = le-refl 1;
-      within = l;
+      first = omega arith;
+      within = omega arith;
       counts-long = length-replicate {A = ℕ} 63 0;
       symbols-long = length-replicate {A = ℕ} 63 0;
       peaked = record {
-        count-at = λ j l. zero-at 63 j ∙ sym (fold-none max 0 _);
-        symbol-at = λ j l. subst (Sole 0 (column n m j) (place (replicate 63 0) j)) (sym (zero-at 63 j)) (none (zero-at 63 j));
+        count-at = λ j l. zero-at 63 j ∙ sym (ap (λ (i : ℕ). largest (pred i) (column n m j)) e ∙ fold-none max 0 _);
+        symbol-at = λ j l. subst (Sole (pred i) (column n m j) (place (replicate 63 0) j)) (sym (zero-at 63 j)) (none (zero-at 63 j));
       };
     }
 

@@ -3,11 +3,10 @@
 use mathlib.Core.Path.{_≡_, refl, sym, ap, ap₂, _∙_, subst}
 use mathlib.Core.Bool.{Bool, true, false, cond, _&&_}
 use mathlib.Core.List.{List}
-use Prim.Native.Nat.{ℕ, suc, pred, _+_, _*_, _^_, _%_, _≤_, _<_}
-use native.Mathlib.Nat.{lt-irrefl, zero-lt-suc, suc-lt-of-lt-pred, mod-eq-of-lt}
+use Prim.Native.Nat.{ℕ, suc, pred, _+_, _*_, _^_, _<_}
+use native.Mathlib.Nat.{zero-lt-suc, suc-lt-of-lt-pred, mod-eq-of-lt}
 use native.Mathlib.Omega.{arith}
 use lib.Dec.{T, eqb, leb, leb→le, le→leb, eqb→eq}
-use lib.ListN.{getD}
 use Rattle.range.specs.Fold.{indicator, largest}
 use Rattle.range.proofs.Tests.{eq→eqb, and-left, and-right, and-both}
 use Rattle.range.proofs.Fold.{fold-cong}
@@ -38,14 +37,8 @@ module _ (F : FieldOps) (laws : FieldLaws F) (B : Book) (m : ℕ → ℕ → ℕ
 
   inside : {e : ℕ} → Sole (pred q) (λ k. m (suc k) j) (peak F B m j) e → T counts-pass → e ≡ correction F B m j
   unfolding counts-pass inUpdateSet holders rowsWith
-  inside (none z) b =
-      sym (correction-outside F laws B m j (λ t.
-      let p : 1 ≤ peak F B m j = leb→le 1 (peak F B m j) (search (and-left, and-right)) in
-      lt-irrefl 0 (omega arith)))
-  inside (shared h) b =
-      sym (correction-outside F laws B m j (λ t.
-      let one : holders F B m j ≡ 1 = eqb→eq (holders F B m j) 1 (search (and-left, and-right)) in
-      lt-irrefl 0 (omega arith)))
+  inside (none z) b = sym (correction-outside F laws B m j (λ t. omega (arith, leb→le 1 (peak F B m j) (search (and-left, and-right)))))
+  inside (shared h) b = sym (correction-outside F laws B m j (λ t. omega (arith, eqb→eq (holders F B m j) 1 (search (and-left, and-right)))))
   inside (alone {k} l t p h) b =
       let p′ : T (leb 1 (peak F B m j)) = le→leb 1 (peak F B m j) p in
       let h′ : T (eqb (holders F B m j) 1) = eq→eqb h in

@@ -1,9 +1,9 @@
 -- The symbol that alone has the peak of a column, after one more row.
 -- Assumes nothing.
-use mathlib.Core.Path.{_≡_, refl, ap, ap₂, _∙_}
+use mathlib.Core.Path.{_≡_, refl, ap, _∙_}
 use mathlib.Core.Bool.{Bool, true, false}
-use Prim.Native.Nat.{ℕ, suc, _+_, max, _≤_, _<_}
-use native.Mathlib.Nat.{le-refl, le-step, le-of-lt, le-antisymm, max-eq-left, max-eq-right, ne-of-lt}
+use Prim.Native.Nat.{ℕ, suc, _+_, max, _<_}
+use native.Mathlib.Nat.{le-refl, le-step, le-of-lt, max-eq-left, max-eq-right, ne-of-lt}
 use native.Mathlib.Decide.{decLt}
 use native.Mathlib.Omega.{arith}
 use borrow.Author.Tests.{lt-ltb, le-ltb, eq-eqb, ne-eqb}

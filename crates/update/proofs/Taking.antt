@@ -1,6 +1,6 @@
 -- A row that a loop takes into the peaks: the places below j have it, the others are as they were.
 -- Assumes nothing.
-use mathlib.Core.Path.{_≡_, ap, ap₂, _∙_}
+use mathlib.Core.Path.{_≡_}
 use mathlib.Core.List.{List}
 use Prim.Native.Nat.{ℕ, _+_, max, _≤_, _<_, zero-le}
 use native.Mathlib.Nat.{le-refl}

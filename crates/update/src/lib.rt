@@ -1,6 +1,6 @@
 // The update rule: the corrections that a matrix asks for. Entry (i, j) of the matrix is at i * n + j.
 ghost use mathlib.Core.Path.{_≡_};
-ghost use Prim.Native.Nat.{_+_, _*_, _^_, _<_, _≤_, max};
+ghost use Prim.Native.Nat.{_*_, _^_, _<_, _≤_, max};
 ghost use lib.ListN.{length};
 ghost use Rattle.range.specs.Table.{padded};
 ghost use Rattle.field.specs.Symbols.{gf};
@@ -99,7 +99,7 @@ fn at_least(n: usize, a: [u16; 63], x: u16) -> u16
     count
 }
 
-// The symbol of column j, where neither the count of row-0 entries at most that of j nor the count of peaks at least that of j passes `places`, else 0.
+// The symbol of column j where neither the count of row-0 entries at most that of j nor the count of peaks at least that of j passes `places`, else 0.
 fn correction_at(n: usize, places: usize, m: &[u16], counts: [u16; 63], symbol: u8, j: usize) -> u8
     requires { ⌜ (n ≤ 63) × (n ≤ length (now m)) × (j < n) ⌝ }
     ensures { λ r. ⌜ r ≡ admitted places (atMost n (now (m .entry)) (place (now (m .entry)) j)) (atLeast n counts (place counts j)) symbol ⌝ }

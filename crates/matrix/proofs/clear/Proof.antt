@@ -8,8 +8,6 @@ use Rattle.range.proofs.Loop.{Over, over-none, over-more, over-table}
 use borrow.Author.Needs.{needs}
 use Rattle.matrix.proofs.clear.Statement.{statement}
 use Rattle.matrix.proofs.clear.Tie as tie
-use Rattle.matrix.proofs.clear.Reads as reads
-use Rattle.matrix.proofs.clear.Lts as lts
 
 abbrev Inv-loop : tie.InvT-loop
 Inv-loop m₀ size k₀ m k = (k ≤ size) × Over k (λ k. 0) m₀ m
@@ -17,35 +15,27 @@ Inv-loop m₀ size k₀ m k = (k ≤ size) × Over k (λ k. 0) m₀ m
 abbrev μ-loop : tie.MeasureT-loop
 μ-loop m₀ size k₀ m k = size - k
 
--- src/lib.rt:21:5
 loop-holds : tie.Need-loop-holds Inv-loop μ-loop
 loop-holds c = (search needs, over-none _ _)
 
--- src/lib.rt:22:9
 mul-m : tie.Need-mul-m Inv-loop μ-loop
 mul-m c = search needs
 
--- src/lib.rt:22:9
 slice-write-m : tie.Need-slice-write-m Inv-loop μ-loop
 slice-write-m c = search needs
 
--- src/lib.rt:23:9
 add-k : tie.Need-add-k Inv-loop μ-loop
 add-k c = search needs
 
--- src/lib.rt:21:5
 loop-less : tie.Need-loop-less Inv-loop μ-loop
 loop-less c = search needs
 
--- src/lib.rt:21:5
 loop-again : tie.Need-loop-again Inv-loop μ-loop
 loop-again c = (search needs, over-more _ (omega arith) refl (c .before .loop .inv .1))
 
--- src/lib.rt:16:1
 same-length : tie.Need-same-length Inv-loop μ-loop
 same-length c = c .before .loop .inv .1 .long
 
--- src/lib.rt:16:1
 returns : tie.Need-returns Inv-loop μ-loop
 returns c =
     let e : c .before .loop .k ≡ length (c .before .before .args .m .now) = omega arith in

@@ -3,35 +3,28 @@
 use Prim.Native.Nat.{_+_, _*_, _-_, _<_}
 use native.Mathlib.Omega.{arith}
 use lib.ListN.{length}
-use Rattle.matrix.specs.Count.{stepCount}
+use Rattle.matrix.specs.Count.{stepAdds}
 use Rattle.matrix.proofs.Raised.{Adding, adding-none, adding-long, adding-end}
 use Rattle.matrix.proofs.Running.{step-in, step-small, step-more}
 use borrow.Author.Needs.{needs}
 use Rattle.matrix.proofs.count_run.Statement.{statement}
 use Rattle.matrix.proofs.count_run.Tie as tie
-use Rattle.matrix.proofs.count_run.Reads as reads
-use Rattle.matrix.proofs.count_run.Lts as lts
-use Rattle.matrix.proofs.wide.Reads as wide-reads
 
 abbrev Inv-loop : tie.InvT-loop
-Inv-loop n from column steps m₀ v i₀ m i = Adding steps (stepCount n v from column) m₀ m i
+Inv-loop n from column steps m₀ v i₀ m i = Adding steps (stepAdds n v from column) m₀ m i
 
 abbrev μ-loop : tie.MeasureT-loop
 μ-loop n from column steps m₀ v i₀ m i = steps - i
 
--- src/lib.rt:54:5
 loop-holds : tie.Need-loop-holds Inv-loop μ-loop
 loop-holds c = adding-none _ _ _
 
--- src/lib.rt:55:25
 add-wide : tie.Need-add-wide Inv-loop μ-loop
 add-wide c = search needs
 
--- src/lib.rt:55:23
 array-read-wide : tie.Need-array-read-wide Inv-loop μ-loop
 array-read-wide c = search needs
 
--- src/lib.rt:55:18
 wide-requires : tie.Need-wide-requires Inv-loop μ-loop
 wide-requires c κs = search needs
 
@@ -40,55 +33,43 @@ in-matrix : (c : tie.After-wide Inv-loop μ-loop)
     → let a = c .before .before .before .before .args in c .wide .result * a .n + (a .column + c .before .before .loop .i) < length (a .m .now)
 in-matrix c = step-in (c .before .before .loop .inv) (c .before .before .before .before .pre) (c .before .loop-test .taken) (c .wide .ensures)
 
--- src/lib.rt:55:18
 mul-at : tie.Need-mul-at Inv-loop μ-loop
 mul-at c = omega (arith, in-matrix c)
 
--- src/lib.rt:55:43
 add-at : tie.Need-add-at Inv-loop μ-loop
 add-at c = search needs
 
--- src/lib.rt:55:18
 add-at-2 : tie.Need-add-at-2 Inv-loop μ-loop
 add-at-2 c = omega (arith, in-matrix c)
 
--- src/lib.rt:56:9
 mul-m : tie.Need-mul-m Inv-loop μ-loop
 mul-m c = omega (arith, in-matrix c)
 
--- src/lib.rt:56:9
 slice-read-m : tie.Need-slice-read-m Inv-loop μ-loop
 slice-read-m c = omega (arith, in-matrix (c .before), adding-long (c .before .before .before .loop .inv))
 
--- src/lib.rt:56:9
 add-m : tie.Need-add-m Inv-loop μ-loop
 add-m c =
     let s = c .before .before .before in
     omega (arith, step-small (s .loop .inv) (s .before .before .pre) (c .before .before .loop-test .taken) (c .before .wide .ensures))
 
--- src/lib.rt:56:9
 slice-write-m : tie.Need-slice-write-m Inv-loop μ-loop
 slice-write-m c = omega (arith, in-matrix (c .before), adding-long (c .before .before .before .loop .inv))
 
--- src/lib.rt:57:9
 add-i : tie.Need-add-i Inv-loop μ-loop
 add-i c = search needs
 
--- src/lib.rt:54:5
 loop-less : tie.Need-loop-less Inv-loop μ-loop
 loop-less c = search needs
 
--- src/lib.rt:54:5
 loop-again : tie.Need-loop-again Inv-loop μ-loop
 loop-again c =
     let s = c .before .before .before in
     step-more (s .loop .inv) (s .before .before .pre) (c .before .before .loop-test .taken) (c .before .wide .ensures)
 
--- src/lib.rt:49:1
 same-length : tie.Need-same-length Inv-loop μ-loop
 same-length c = adding-long (c .before .loop .inv)
 
--- src/lib.rt:49:1
 returns : tie.Need-returns Inv-loop μ-loop
 returns c = adding-end (c .before .loop .inv) (c .loop-test .left)
 

@@ -9,9 +9,6 @@ use Rattle.array.proofs.Filled.{held-end}
 use borrow.Author.Needs.{needs}
 use Rattle.matrix.proofs.scale.Statement.{statement}
 use Rattle.matrix.proofs.scale.Tie as tie
-use Rattle.matrix.proofs.scale.Reads as reads
-use Rattle.matrix.proofs.scale.Lts as lts
-use Rattle.field.proofs.mul.Reads as mul-reads
 
 abbrev Inv-loop : tie.InvT-loop
 Inv-loop p n c w out₀ j₀ out j = (j ≤ n) × Held 63 j (λ j. product p c (place w j)) out
@@ -19,35 +16,27 @@ Inv-loop p n c w out₀ j₀ out j = (j ≤ n) × Held 63 j (λ j. product p c (
 abbrev μ-loop : tie.MeasureT-loop
 μ-loop p n c w out₀ j₀ out j = n - j
 
--- src/lib.rt:34:5
 loop-holds : tie.Need-loop-holds Inv-loop μ-loop
 loop-holds c = (search needs, held-none 63 _)
 
--- src/lib.rt:35:35
 array-read-mul : tie.Need-array-read-mul Inv-loop μ-loop
 array-read-mul c = search needs
 
--- src/lib.rt:35:18
 mul-requires : tie.Need-mul-requires Inv-loop μ-loop
 mul-requires c κs = search (needs, c .before .before .pre .2 .symbol)
 
--- src/lib.rt:35:9
 array-write-out : tie.Need-array-write-out Inv-loop μ-loop
 array-write-out c = search needs
 
--- src/lib.rt:36:9
 add-j : tie.Need-add-j Inv-loop μ-loop
 add-j c = search needs
 
--- src/lib.rt:34:5
 loop-less : tie.Need-loop-less Inv-loop μ-loop
 loop-less c = search needs
 
--- src/lib.rt:34:5
 loop-again : tie.Need-loop-again Inv-loop μ-loop
 loop-again c = (search needs, held-more _ (omega arith) (c .mul .ensures .0) (c .before .before .loop .inv .1))
 
--- src/lib.rt:28:1
 returns : tie.Need-returns Inv-loop μ-loop
 returns c = held-end (omega arith) (c .before .loop .inv .1)
 

@@ -1,12 +1,10 @@
 -- `update::peaks` meets its contract. The invariant: rows 1 to i - 1 are taken.
 -- Assumes nothing.
+use mathlib.Core.Path.{_≡_}
 use Prim.Native.Nat.{_+_, _-_, _*_, _^_, _≤_}
 use native.Mathlib.Omega.{arith}
-use native.Mathlib.Nat.{le-of-eq, le-trans}
-use mathlib.Core.Path.{_≡_, subst}
 use lib.Pow.{pow-pos}
 use lib.ListN.{length}
-use Rattle.update.specs.Column.{Peaked}
 use Rattle.update.proofs.Climbing.{Climbing, climbing-none, climbing-more, row-within, part-length}
 use borrow.Author.Needs.{needs}
 use Rattle.update.proofs.peaks.Statement.{statement}
@@ -31,19 +29,19 @@ sub-last : tie.Need-sub-last Inv-loop μ-loop
 sub-last c = omega (arith, pow-pos (c .before .before .args .p))
 
 loop-holds : tie.Need-loop-holds Inv-loop μ-loop
-loop-holds c = climbing-none (pow-pos (c .before .before .args .p))
+loop-holds c = climbing-none (omega arith) (pow-pos (c .before .before .args .p))
 
 cast-start : tie.Need-cast-start Inv-loop μ-loop
 cast-start c = search needs
 
 mul-start : tie.Need-mul-start Inv-loop μ-loop
-mul-start c = let b = row-ends c in omega arith
+mul-start c = omega (arith, row-ends c)
 
 add-end : tie.Need-add-end Inv-loop μ-loop
-add-end c = let b = row-ends c in omega arith
+add-end c = omega (arith, row-ends c)
 
 mul-take-row : tie.Need-mul-take-row Inv-loop μ-loop
-mul-take-row c = let b = row-ends c in omega arith
+mul-take-row c = omega (arith, row-ends c)
 
 sub-take-row : tie.Need-sub-take-row Inv-loop μ-loop
 sub-take-row c = search needs
@@ -57,8 +55,7 @@ part-take-row-end c = row-ends c
 take-row-requires : tie.Need-take-row-requires Inv-loop μ-loop
 take-row-requires c κs =
     let t = c .before .before .before in
-    let b = row-ends t in
-    (rw (part-length _ _ _ b) (omega arith), t .before .loop .inv .counts-long, t .before .loop .inv .symbols-long)
+    (rw (part-length _ _ _ (row-ends t)) (omega arith), t .before .loop .inv .counts-long, t .before .loop .inv .symbols-long)
 
 add-i : tie.Need-add-i Inv-loop μ-loop
 add-i c = search needs
@@ -73,8 +70,7 @@ loop-again c =
 
 returns : tie.Need-returns Inv-loop μ-loop
 returns c =
-    let t = c .before .before .before .before in
-    let e : c .before .loop .i ≡ 2 ^ t .args .p = omega arith in
+    let e : c .before .loop .i ≡ 2 ^ c .before .before .before .before .args .p = omega arith in
     rw e at (c .before .loop .inv .peaked)
 
 pub peaks-spec : {M : Type 1} → statement M
