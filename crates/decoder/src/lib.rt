@@ -8,7 +8,6 @@ ghost use Rattle.codebook.specs.Params.{Describes};
 ghost use Rattle.inputs.specs.Wrote.{Wrote};
 ghost use Rattle.decoder.specs.Refusals.{matrixInputRefusal, matrixRefusal, matrixBytes, decodeInputRefusal, decodeRefusal, decodeBytes};
 ghost use Rattle.decoder.specs.Decoded.{Decodes};
-
 use codebook::Params;
 use inputs::Done;
 
@@ -92,7 +91,13 @@ pub fn decode(book: &[u8], received: &[u8], answer: &mut [u8], entries: &mut [u1
 }
 
 // The same with a book that was accepted before: its parameters c are read off it once, for many words.
-pub fn decode_checked(book: &[u8], c: Params, received: &[u8], answer: &mut [u8], entries: &mut [u16]) -> Decoded
+pub fn decode_checked(
+    book: &[u8],
+    c: Params,
+    received: &[u8],
+    answer: &mut [u8],
+    entries: &mut [u16],
+) -> Decoded
     requires { ⌜ Describes (now book) c ⌝ }
     ensures { λ r. ⌜ Decodes (decodeInputRefusal (now (book .entry)) (now (received .entry)) (length (now (answer .entry))) (length (now (entries .entry))))
         (decodeBytes (now (book .entry)) (now (received .entry))) (now (answer .entry)) (now (entries .entry)) r (now (answer .exit)) (now (entries .exit)) ⌝ }

@@ -8,9 +8,8 @@ ghost use Rattle.array.specs.Stored.{place, Sizes, Stored};
 ghost use Rattle.codebook.specs.Params.{Describes};
 ghost use Rattle.decoder.specs.Refusals.{decodeBytes};
 ghost use Rattle.decoder.specs.Rounds.{listed, allRounds, Ready, Stepped, Ended};
-
-use codebook::Params;
 use crate::Kind;
+use codebook::Params;
 
 // What comes of a round.
 pub enum Step {
@@ -52,12 +51,21 @@ fn round(book: &[u8], c: Params, g: [u8; 63], w: [u8; 63], m: &mut [u16]) -> Rou
     let e = update::corrections(c.p, n, c.places, m);
     let next = array::add(n, w, e);
     if array::is_zero(n, e) {
-        return Rounded { step: Step::Empty, word: next };
+        return Rounded {
+            step: Step::Empty,
+            word: next,
+        };
     }
     if is_code_word(c.p, n, c.degree, g, next) {
-        return Rounded { step: Step::Reached, word: next };
+        return Rounded {
+            step: Step::Reached,
+            word: next,
+        };
     }
-    Rounded { step: Step::Going, word: next }
+    Rounded {
+        step: Step::Going,
+        word: next,
+    }
 }
 
 // The rounds for a received word that is not a code word.
@@ -75,17 +83,29 @@ fn go(book: &[u8], c: Params, g: [u8; 63], r: [u8; 63], m: &mut [u16]) -> End
         made += 1;
         match step {
             Step::Empty => {
-                return End { kind: Kind::Stalled, rounds: made, word: r };
+                return End {
+                    kind: Kind::Stalled,
+                    rounds: made,
+                    word: r,
+                };
             }
             Step::Reached => {
-                return End { kind: Kind::Mended, rounds: made, word: next };
+                return End {
+                    kind: Kind::Mended,
+                    rounds: made,
+                    word: next,
+                };
             }
             Step::Going => {
                 w = next;
             }
         }
     }
-    End { kind: Kind::Spent, rounds: made, word: r }
+    End {
+        kind: Kind::Spent,
+        rounds: made,
+        word: r,
+    }
 }
 
 // Decodes the word r: Clean where it is a code word, with a matrix of zeros; else by rounds.
@@ -97,7 +117,11 @@ pub fn run(book: &[u8], c: Params, r: [u8; 63], m: &mut [u16]) -> End
     let g = array::load(book, 4, n);
     if is_code_word(c.p, n, c.degree, g, r) {
         matrix::clear(m);
-        return End { kind: Kind::Clean, rounds: 0, word: r };
+        return End {
+            kind: Kind::Clean,
+            rounds: 0,
+            word: r,
+        };
     }
     go(book, c, g, r, m)
 }

@@ -15,7 +15,7 @@ use Rattle.book.specs.Conditions.{refusal}
 use Rattle.book.proofs.Accepting.{accepted}
 use Rattle.decoding.specs.Decode.{decode}
 use Rattle.decoding.specs.Symmetry.{move, Moved}
-use Rattle.decoding.proofs.Symmetry.{symmetry}
+use Rattle.decoding.proofs.Symmetry.{move-symbols, symmetry}
 
 module _ (width : ℕ) (wide : 63 ≤ width) (bytes : List ℕ) (e : refusal width bytes ≡ 0) where
   abbrev F : FieldOps
@@ -23,6 +23,14 @@ module _ (width : ℕ) (wide : 63 ≤ width) (bytes : List ℕ) (e : refusal wid
 
   abbrev B : Book
   B = bookOf width bytes
+
+  -- the moved word is a word
+  pub moved-word : (t c : ℕ) → 0 < c → c < F .q
+      → (v : List ℕ) → SymbolList F (B .n) v → T (isCodeWord F B (at (B .n) v))
+      → (r : List ℕ) → SymbolList F (B .n) (move F (B .n) t c v r)
+  moved-word =
+      let ok = accepted width wide bytes e in
+      move-symbols F (gf-laws (symbolDigits bytes) (ok .0 .p-low) (ok .0 .p-high)) B (ok .1)
 
   pub demand-3 : (t c : ℕ) → 0 < c → c < F .q
       → (v : List ℕ) → SymbolList F (B .n) v → T (isCodeWord F B (at (B .n) v))

@@ -85,7 +85,7 @@ module _ (F : FieldOps) (laws : FieldLaws F) (B : Book) (ok : Accepted F B) wher
 
       -- ---- the moved word itself
 
-      move-symbols : (w : List ℕ) → SymbolList F n (move F n t c v w)
+      pub move-symbols : (w : List ℕ) → SymbolList F n (move F n t c v w)
       unfolding move plus scale
       move-symbols w = table-symbols F n _ pos (λ j l. add-below (at n scaled j) (at n v j) (scaled-symbols .symbols j) (hv .symbols j))
         where
