@@ -6,7 +6,7 @@ use mathlib.Core.List.{List}
 use Prim.Native.Nat.{ℕ, _+_, _%_, _<_}
 use native.Mathlib.Nat.{mod-lt, mod-eq-of-lt}
 use native.Mathlib.Omega.{arith}
-use lib.Dec.{T, eqb, leb}
+use lib.Dec.{T, eqb}
 use lib.ListN.{length}
 use Rattle.range.specs.Fold.{all}
 use Rattle.range.specs.Table.{padded}
@@ -22,10 +22,10 @@ use Rattle.word.proofs.Place.{at-lt}
 use Rattle.word.proofs.Product.{product-cong}
 use Rattle.array.specs.Stored.{place, Sizes, Stored}
 use Rattle.array.proofs.Filled.{read-padded}
-use Rattle.book.specs.Layout.{width, generatorAt, dualAt, dualCount, byte, bodyPlace, wordLength, fieldOf, degreeOf, bookOf}
+use Rattle.book.specs.Layout.{width, generatorAt, limitsAt, dualAt, dualCount, byte, bodyPlace, wordLength, fieldOf, degreeOf, bookOf}
 use Rattle.book.specs.Conditions.{bodyOk, symbolsOk, generatorOk, limitsOk, dualOk, alike}
 use Rattle.book.proofs.Accepting.{sizes, body-symbol, body-zero}
-use Rattle.codebook.specs.Params.{Readable, Sized, Read, generatorTest, dualTest}
+use Rattle.codebook.specs.Params.{Readable, Sized, Read, generatorTest, limitsTest, dualTest}
 
 -- ---- readable bytes
 
@@ -92,16 +92,17 @@ module _ {bytes : List ℕ} {p n : ℕ} {g : List ℕ} (h : Read bytes p n g) wh
   unfolding generatorTest generatorOk bookOf
   generator-test = ap (generatorTest p n) generator-is ∙ rw (h .p-is, h .sized .n-is)
 
-  pub limits-test : leb 1 (byte bytes 68) && leb (byte bytes 68) 63 && leb 1 (byte bytes 69) && leb (byte bytes 69) n
-      ≡ limitsOk (fieldOf bytes) (bookOf width bytes)
-  unfolding limitsOk bookOf
+  pub limits-test : limitsTest n (byte bytes (limitsAt width + 1)) (byte bytes (limitsAt width + 2)) ≡ limitsOk (fieldOf bytes) (bookOf width bytes)
+  unfolding limitsTest limitsOk bookOf
   limits-test = rw (h .sized .n-is)
 
   pub dual-test : (l : ℕ) {b : List ℕ} {wanted : ℕ} → b ≡ padded 63 n (bodyPlace bytes (dualAt width l)) → wanted ≡ weight n (bookOf width bytes .dual 0)
       → dualTest p n (at n g) (at n b) wanted ≡ dualOk (fieldOf bytes) (bookOf width bytes) l
   unfolding dualTest dualOk bookOf
-  dual-test l e f = ap₂ (dualTest p n (at n g)) (dual-loaded (h .sized) l e) f ∙ ap products (fold-cong _&&_ true n (λ m k.
-      ap (λ (x : ℕ). eqb x 0) (product-cong (gf p) laws n (λ u k. at-lt n g k ∙ ap (λ (G : ℕ → ℕ). G u) generator-is) (λ j. refl) m))) ∙ rw (h .p-is, h .sized .n-is)
+  dual-test l e f =
+      ap₂ (dualTest p n (at n g)) (dual-loaded (h .sized) l e) f ∙ ap products (fold-cong _&&_ true n (λ m k.
+      ap (λ (x : ℕ). eqb x 0) (product-cong (gf p) laws n (λ u k. at-lt n g k ∙ ap (λ (G : ℕ → ℕ). G u) generator-is) (λ j. refl) m)))
+      ∙ rw (h .p-is, h .sized .n-is)
     where
       laws : FieldLaws (gf p)
       laws = gf-laws p (read-sizes .p-low) (read-sizes .p-high)

@@ -55,11 +55,17 @@ pub record Read (bytes : List ℕ) (p n : ℕ) (g : List ℕ) : Type 0 where
   pub p-is : p ≡ symbolDigits bytes
   pub g-is : g ≡ padded 63 n (λ j. place bytes (4 + j))
 
--- condition 5's test of p, n and g's coefficients
+-- ---- the tests that the code makes of the conditions 5 to 7, each of what it asks alone
+
+-- 5, of the coefficients g
 unfoldable pub generatorTest : ℕ → ℕ → (ℕ → ℕ) → Bool
 generatorTest p n g = leb 1 (degreeOf n g) && eqb (g (degreeOf n g)) 1 && divides (gf p) (degreeOf n g) g (suc n) (unity n)
 
--- condition 7's test of a dual word b, where the first has the weight `wanted`
+-- 6, of I and D
+unfoldable pub limitsTest : ℕ → ℕ → ℕ → Bool
+limitsTest n rounds places = leb 1 rounds && leb rounds 63 && leb 1 places && leb places n
+
+-- 7, of a dual word b, where the first one has the weight `wanted`
 unfoldable pub dualTest : ℕ → ℕ → (ℕ → ℕ) → (ℕ → ℕ) → ℕ → Bool
 dualTest p n g b wanted = eqb (b 0) 1 && all n (λ m. eqb (product (gf p) n g b m) 0) && eqb (weight n b) wanted
 

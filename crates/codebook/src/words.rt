@@ -1,8 +1,7 @@
 // The conditions 5 to 8, which ask for products of whole words.
 ghost use mathlib.Core.Path.{_≡_};
-ghost use mathlib.Core.Bool.{not, _&&_};
+ghost use mathlib.Core.Bool.{not};
 ghost use Prim.Native.Nat.{suc, _<_, _≤_};
-ghost use lib.Dec.{leb};
 ghost use lib.ListN.{length};
 ghost use Rattle.range.specs.Fold.{all};
 ghost use Rattle.field.specs.Symbols.{gf};
@@ -12,7 +11,7 @@ ghost use Rattle.word.specs.CyclicCode.{unity};
 ghost use Rattle.array.specs.Stored.{place, Sizes, Stored};
 ghost use Rattle.book.specs.Layout.{width, dualCount, fieldOf, degreeOf, bookOf};
 ghost use Rattle.book.specs.Conditions.{dualsOk, alike, distinctOk, bookRefusal};
-ghost use Rattle.codebook.specs.Params.{Readable, Sized, Read, generatorTest, dualTest};
+ghost use Rattle.codebook.specs.Params.{Readable, Sized, Read, generatorTest, limitsTest, dualTest};
 
 // The first number from 5 to 8 that applies, or 0.
 pub fn refusal(book: &[u8]) -> u8
@@ -88,7 +87,7 @@ fn generator_ok(p: u8, n: usize, g: [u8; 63]) -> bool
 
 // 6: the most rounds from 1 to 63, the most places from 1 to n.
 fn limits_ok(n: usize, rounds: u8, places: u8) -> bool
-    ensures { λ r. ⌜ r ≡ leb 1 rounds && leb rounds 63 && leb 1 places && leb places n ⌝ }
+    ensures { λ r. ⌜ r ≡ limitsTest n rounds places ⌝ }
 {
     if rounds < 1 {
         return false;

@@ -19,6 +19,9 @@ kindOf Mended = D.mended
 kindOf Stalled = D.stalled
 kindOf Spent = D.spent
 
+abbrev pub letterOf : Kind → ℕ
+letterOf kind = letter (kindOf kind)
+
 -- the number, or changed, rounds and the kind's letter
 abbrev pub said : Decoded → Answer
 said (Answered kind rounds changed) = done (changed ∷ rounds ∷ letter (kindOf kind) ∷ [])

@@ -28,7 +28,7 @@ pub enum Decoded {
 }
 
 // The size of a matrix, q * n.
-fn matrix_size(p: u8, n: usize) -> usize
+pub fn matrix_size(p: u8, n: usize) -> usize
     requires { ⌜ (p ≤ 6) × (n ≤ 63) ⌝ }
     ensures { λ r. ⌜ r ≡ 2 ^ p * n ⌝ }
 {

@@ -1,4 +1,4 @@
--- `codebook::check` meets its contract.
+-- `codebook::check` meets its contract: the number found is the answer, or where it is 0 the count is.
 -- Assumes nothing.
 use mathlib.Core.Path.{sym, _∙_}
 use Rattle.field.proofs.Refusals.{answers-refused, answers-done}

@@ -1,4 +1,4 @@
--- `codebook::describe` meets its contract.
+-- `codebook::describe` meets its contract: an accepted book is readable, and each field was read where the book has it.
 -- Assumes nothing.
 use mathlib.Core.Path.{refl, _∙_}
 use native.Mathlib.Omega.{arith}

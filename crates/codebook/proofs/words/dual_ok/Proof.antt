@@ -17,14 +17,12 @@ use borrow.Author.Needs.{needs}
 use Rattle.codebook.proofs.words.dual_ok.Statement.{statement}
 use Rattle.codebook.proofs.words.dual_ok.Tie as tie
 
--- EXTRA
+-- what was found of the product
 zeros : (c : tie.After-is-zero) → let s = c .before .before .before .args in
     c .is-zero .result ≡ all (s .n) (λ m. eqb (product (gf (s .p)) (s .n) (at (s .n) (s .g)) (at (s .n) (s .t4)) m) 0)
 zeros c =
     c .is-zero .ensures
     ∙ fold-cong _&&_ true _ (λ m l. ap (λ (x : ℕ). eqb x 0) (read-padded _ (c .before .cyclic-product .ensures) (c .before .before .before .pre .0 .n-high) l))
-
--- ENDEXTRA
 
 array-read-if1 : tie.Need-array-read-if1
 array-read-if1 c = search needs

@@ -12,14 +12,14 @@ degree-requires c κs = search needs
 
 returns : tie.Need-returns
 unfolding generatorTest
-returns c = rw (← c .before .degree .ensures .0, lt-leb _ _ (c .if1 .taken))
+returns c = let d = c .before .degree in rw (← d .ensures .0, lt-leb 1 (d .result) (omega arith))
 
 array-read-leading : tie.Need-array-read-leading
 array-read-leading c = search needs
 
 returns-2 : tie.Need-returns-2
 unfolding generatorTest
-returns-2 c = rw (← c .before .before .degree .ensures .0, le-leb _ _ (c .before .if1 .left), ne-eqb _ _ (c .if2 .taken))
+returns-2 c = let d = c .before .before .degree in rw (← d .ensures .0, le-leb 1 (d .result) (omega arith), ne-eqb _ _ (c .if2 .taken))
 
 divides-unity-requires : tie.Need-divides-unity-requires
 divides-unity-requires c κs = (search needs, record { symbol = λ j l. c .before .before .before .pre .1 .symbol j (omega arith) }, search needs, search needs)
@@ -27,8 +27,8 @@ divides-unity-requires c κs = (search needs, record { symbol = λ j l. c .befor
 returns-3 : tie.Need-returns-3
 unfolding generatorTest
 returns-3 c =
-    let s = c .before .before in
-    rw (← s .before .degree .ensures .0, le-leb _ _ (s .if1 .left), eq-eqb _ _ (c .before .if2 .left)) (c .divides-unity .ensures)
+    let d = c .before .before .before .degree in
+    rw (← d .ensures .0, le-leb 1 (d .result) (omega arith), eq-eqb _ _ (c .before .if2 .left)) (c .divides-unity .ensures)
 
 pub generator-ok-spec : {M : Type 1} → statement M
 generator-ok-spec =

@@ -6,7 +6,7 @@ use Rattle.book.specs.Layout.{width, symbolDigits, fieldOf, bookOf}
 use Rattle.book.specs.Conditions.{generatorOk, limitsOk, bookRefusal}
 use Rattle.codebook.specs.Params.{Read}
 use Rattle.codebook.proofs.Reading.{sized, read-sizes, generator-stored, generator-test, limits-test}
-use Rattle.codebook.proofs.Tested.{failed, passed, exponent-high, readable}
+use Rattle.codebook.proofs.Tested.{failed, passed, exponent-high}
 use borrow.Author.Needs.{needs}
 use Rattle.codebook.proofs.words.refusal.Statement.{statement}
 use Rattle.codebook.proofs.words.refusal.Tie as tie
@@ -18,7 +18,8 @@ read c =
     let r = c .before .before .before .before .before .pre in
     record { readable = r; sized = sized r (c .before .word-length .ensures .0); p-is = refl; g-is = c .load .ensures }
 
-generates : (c : tie.Else1) → let book = c .before .before .before .before .before .before .before .args .book .now in generatorOk (fieldOf book) (bookOf width book) ≡ true
+generates : (c : tie.Else1) → let book = c .before .before .before .before .before .before .before .args .book .now in
+    generatorOk (fieldOf book) (bookOf width book) ≡ true
 generates c = passed (c .before .generator-ok .ensures ∙ generator-test (read (c .before .before))) (c .if1 .left)
 
 limited : (c : tie.Else2) → let book = c .before .before .before .before .before .before .before .before .before .before .before .args .book .now in

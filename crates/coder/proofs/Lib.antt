@@ -1,0 +1,3 @@
+pub mod Accepting
+pub mod Working
+pub mod Returning
