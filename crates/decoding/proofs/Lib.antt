@@ -8,3 +8,4 @@ pub mod Decode
 pub mod Outcome
 pub mod Symmetry
 pub mod Demand3
+pub mod Blank

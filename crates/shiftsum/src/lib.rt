@@ -27,7 +27,7 @@ fn pack_checked(r: Checked) -> u32
 }
 
 // The result of an operation that writes one buffer.
-fn pack_done(r: Done) -> u32
+pub fn pack_done(r: Done) -> u32
     ensures { λ x. ⌜ x ≡ packed (wrote.said r) ⌝ }
 {
     match r {

@@ -289,7 +289,8 @@ fn smaller(d: u8) -> Vec<u8> {
     books::write(3, 1, &symbols("10111"), 3, d, &[symbols("1110100")])
 }
 
-/// Over GF(8), the code whose words have one symbol in all places.
+/// Over GF(8), the code whose words have one symbol in all places; with the
+/// dual word 11.
 fn alike(i: u8, d: u8) -> Vec<u8> {
     books::write(3, 3, &[1; 7], i, d, &[symbols("11")])
 }
@@ -302,6 +303,11 @@ fn more_words_followed_by_hand() {
     followed(smaller(7), "1101000", ('S', 1, 0), "1101000");
     // The count of row 0 alone keeps place 1 out.
     followed(alike(3, 1), "0100230", ('S', 1, 0), "0100230");
+    // With the dual word 101 as well, the count of row 0 keeps place 2 out,
+    // and that of the peaks places 5 and 6.
+    let dual_words = ["11", "101"].map(symbols);
+    let book = books::write(3, 3, &[1; 7], 3, 2, &dual_words);
+    followed(book, "0010123", ('S', 1, 0), "0010123");
     // A shared peak alone keeps all places of case 11's word out.
     let mut book = books::b();
     book[69] = 3;
@@ -312,7 +318,7 @@ fn more_words_followed_by_hand() {
     followed(alike(3, 4), "0100230", ('S', 3, 0), "0100230");
     followed(alike(63, 4), "0100230", ('S', 3, 0), "0100230");
     followed(alike(3, 3), "0100230", ('S', 2, 0), "0100230");
-    println!("decode, more words followed by hand: 9 tried");
+    println!("decode, more words followed by hand: 10 tried");
 }
 
 /// A word of S0's example 1: its alpha, symbol 2, to a power at each place
