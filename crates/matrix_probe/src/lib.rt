@@ -3,7 +3,6 @@ ghost use lib.ListN.{length};
 ghost use Rattle.decoder.specs.Refusals.{matrixRefusal, matrixBytes};
 ghost use Rattle.shiftsum.specs.Packed.{Coded};
 
-
 #[no_mangle]
 pub extern "C" fn matrix_probe(book: &[u8], received: &[u8], entries: &mut [u16]) -> u32
     ensures { λ r. ⌜ Coded (matrixRefusal (now (book .entry)) (now (received .entry)) (length (now (entries .entry))))
