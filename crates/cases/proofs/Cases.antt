@@ -1,6 +1,6 @@
 -- Cases 1 to 14, proved together of the definitions, and that the books they use are accepted.
 -- Assumes nothing.
-use mathlib.Core.Path.{_≡_, refl}
+use mathlib.Core.Path.{refl}
 use Rattle.range.specs.Fold.{fold}
 use Rattle.range.specs.Table.{table}
 use Rattle.field.specs.Symbols.{polynomial, timesX, shiftAdd, product, first, inverse}

@@ -1,6 +1,5 @@
 // Coding a message and reading it back, for all inputs.
 ghost use mathlib.Core.Path.{_≡_};
-ghost use Prim.Native.Nat.{ℕ};
 ghost use lib.ListN.{length};
 ghost use Rattle.inputs.specs.Wrote.{Wrote};
 ghost use Rattle.coder.specs.Refusals.{codeRefusal, coded, readInputRefusal, codeWordRefusal, readRefusal, messageOf};

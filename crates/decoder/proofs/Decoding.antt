@@ -1,7 +1,7 @@
 -- The decoder's two ways: a code word is Clean, any other goes through rounds.
 -- Assumes nothing.
-use mathlib.Core.Path.{_≡_, refl, sym, ap, _∙_, subst, fun-ext}
-use mathlib.Core.Bool.{Bool, true, false, cond}
+use mathlib.Core.Path.{_≡_, refl, sym, ap, _∙_, fun-ext}
+use mathlib.Core.Bool.{true, false}
 use mathlib.Core.List.{List}
 use Prim.Native.Nat.{ℕ, _+_, _*_, _^_}
 use lib.ListN.{length}
@@ -15,7 +15,7 @@ use Rattle.book.specs.Layout.{width, fieldOf, bookOf}
 use Rattle.codebook.specs.Params.{Describes}
 use Rattle.codebook.specs.declared.Params.{Params}
 use Rattle.codebook.proofs.Described.{at-listed, code-at, generator-loaded}
-use Rattle.decoding.specs.Decode.{Result, result, zeroMatrix, decodeWith, clean}
+use Rattle.decoding.specs.Decode.{decodeWith}
 use Rattle.decoder.specs.Refusals.{decodeBytes}
 use Rattle.decoder.specs.Rounds.{listed, allRounds, Ready, Ended}
 use Rattle.decoder.specs.declared.Kind.the-variants.{Clean}

@@ -14,7 +14,7 @@ use Rattle.book.specs.Book.{Book, isCodeWord}
 use Rattle.book.specs.Layout.{width, fieldOf, bookOf}
 use Rattle.book.specs.Conditions.{refusal}
 use Rattle.decoding.specs.Matrix.{matrix, cell}
-use Rattle.decoding.specs.Decode.{Result, emptyUpdateSet, choose, corrected, result, zeroMatrix, run, stalled, mended, spent}
+use Rattle.decoding.specs.Decode.{Result, emptyUpdateSet, choose, corrected, result, zeroMatrix, run, stalled, mended}
 use Rattle.decoding.proofs.Matrix.{matrix-length}
 use Rattle.decoder.specs.Rounds.{listed, made, allRounds, stepOf, Stepped, Ended}
 use Rattle.decoder.specs.declared.Kind.the-variants.{Mended, Stalled, Spent}

@@ -1,12 +1,12 @@
 -- A motion that the code and the matrices respect carries the decoder's result along.
 -- Assumes nothing.
-use mathlib.Core.Path.{_≡_, refl, sym, ap, ap₂, _∙_, subst}
+use mathlib.Core.Path.{_≡_, refl, sym, ap, ap₂, _∙_}
 use mathlib.Core.Bool.{Bool, true, false, not, cond}
 use mathlib.Core.List.{List}
 use Prim.Native.Nat.{ℕ, zero, suc, _+_, _*_, _%_, _<_}
-use native.Mathlib.Nat.{mod-lt, mod-eq-of-lt}
+use native.Mathlib.Nat.{mod-lt}
 use lib.Dec.{eqb}
-use lib.ListN.{getD, length}
+use lib.ListN.{getD}
 use lib.Arith.{digits-lt}
 use Rattle.range.specs.Fold.{indicator}
 use Rattle.range.specs.Table.{table}
@@ -17,7 +17,7 @@ use Rattle.decoding.specs.Matrix.{cell}
 use Rattle.decoding.specs.Decode.{Kind, Result, choose, correction, emptyUpdateSet, corrected, result, zeroMatrix, run, decodeWith, clean, mended, stalled, spent}
 use Rattle.range.proofs.Tests.{same-eqb}
 use Rattle.range.proofs.Fold.{fold-cong, fold-permute, sums}
-use Rattle.range.proofs.Table.{table-at, table-length}
+use Rattle.range.proofs.Table.{table-at}
 use Rattle.field.proofs.Laws.{add-cancel}
 use Rattle.word.proofs.Place.{SymbolList, at-table, table-symbols}
 use Rattle.decoding.proofs.Motion.{Motion, MovedMatrix, MovedWord, symbol-inj}

@@ -8,7 +8,6 @@ use Prim.Native.Nat.{ℕ, zero, suc, _+_, _*_, _≤_}
 use native.Mathlib.Omega.{arith}
 use lib.Dec.{T}
 use lib.ListN.{length}
-use Rattle.range.specs.Table.{table}
 use Rattle.field.specs.Field.{FieldOps}
 use Rattle.word.specs.Word.{at, distance}
 use Rattle.book.specs.Book.{Book, isCodeWord}

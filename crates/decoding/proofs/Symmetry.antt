@@ -2,9 +2,8 @@
 -- Assumes nothing.
 use mathlib.Core.Path.{_≡_, refl, sym, ap, ap₂, _∙_, subst}
 use mathlib.Core.List.{List}
-use Prim.Native.Nat.{ℕ, suc, _+_, _-_, _*_, _/_, _%_, _<_}
-use native.Mathlib.Nat.{mod-lt, mod-mod, mod-add-mod, mod-add-div', mod-eq-of-lt, add-mod-right, add-mul-mod-self-right}
-use native.Mathlib.Omega.{arith}
+use Prim.Native.Nat.{ℕ, _+_, _-_, _*_, _%_, _<_}
+use native.Mathlib.Nat.{mod-lt, mod-mod, mod-add-mod, mod-eq-of-lt}
 use lib.Dec.{T}
 use lib.ListN.{getD}
 use lib.Seq.{ext-getD}

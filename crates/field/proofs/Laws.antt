@@ -1,10 +1,9 @@
 -- What follows from the laws of a field of characteristic 2.
 -- Assumes nothing.
 use mathlib.Core.Path.{_≡_, refl, sym, ap, ap₂, _∙_}
-use mathlib.Core.Logic.{_⊎_, inl, inr, ⊎-elim}
+use mathlib.Core.Logic.{_⊎_, inl, inr}
 use Prim.Native.Nat.{ℕ, zero, suc, _<_}
 use native.Mathlib.Nat.{zero-lt-suc, le-of-suc-le}
-use native.Mathlib.Omega.{arith}
 use Rattle.field.specs.Field.{FieldOps, FieldLaws}
 
 module _ (F : FieldOps) (laws : FieldLaws F) where

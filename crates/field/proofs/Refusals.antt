@@ -7,7 +7,7 @@ use Prim.Native.Nat.{ℕ, zero, suc, _^_, _<_, _≤_}
 use native.Mathlib.Omega.{arith}
 use lib.Dec.{ltb, leb, eqb}
 use borrow.Author.Tests.{ltb-false, leb-false, eqb-false}
-use Rattle.field.specs.Answer.{Answer, answer, orElse, done, refused}
+use Rattle.field.specs.Answer.{answer, orElse, done, refused}
 use Rattle.field.specs.Operations.{refusal, inverseRefusal}
 
 -- no refusal: the condition fails, and none after it holds

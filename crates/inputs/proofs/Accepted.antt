@@ -1,14 +1,12 @@
 -- What a refusal number of 0 tells of an input.
 -- Assumes nothing.
-use mathlib.Core.Path.{_≡_, refl}
-use mathlib.Core.Bool.{Bool, true, false}
+use mathlib.Core.Path.{_≡_}
+use mathlib.Core.Bool.{Bool}
 use mathlib.Core.List.{List}
-use Prim.Native.Nat.{ℕ, suc, _<_}
-use native.Mathlib.Omega.{arith}
+use Prim.Native.Nat.{ℕ, _<_}
 use lib.Dec.{T, eqb, ltb, eqb→eq, ltb→lt}
 use lib.ListN.{length, getD}
 use Rattle.range.proofs.Table.{all-at}
-use Rattle.book.specs.Conditions.{unless}
 use Rattle.book.specs.Inputs.{inputOk, inputRefusal}
 use Rattle.book.proofs.Sound.{passed}
 

@@ -1,7 +1,7 @@
 // The C boundary: check, code, read and decode on numbers and byte slices. A `&[u8]` is a pointer and a length in C. The matrix is a local buffer.
 ghost use mathlib.Core.Path.{_≡_};
 ghost use mathlib.Core.List.{[]};
-ghost use Prim.Native.Nat.{_*_, _^_, _≤_};
+ghost use Prim.Native.Nat.{_*_, _≤_};
 ghost use lib.ListN.{length};
 ghost use Rattle.field.specs.Answer.{answer};
 ghost use Rattle.inputs.specs.Wrote as wrote;

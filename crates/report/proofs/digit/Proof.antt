@@ -1,6 +1,5 @@
 -- `report::digit` meets its contract: each branch is a case of `glyph`.
 -- Assumes nothing.
-use mathlib.Core.Path.{_≡_, refl}
 use borrow.Author.Tests.{lt-ltb, le-ltb}
 use Rattle.report.specs.Line.{glyph}
 use borrow.Author.Needs.{needs}

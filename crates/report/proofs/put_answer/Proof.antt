@@ -2,7 +2,6 @@
 -- Assumes nothing.
 use native.Mathlib.Omega.{arith}
 use Rattle.report.specs.Line.{answerLine}
-use Rattle.report.specs.Printed.{Printed}
 use Rattle.report.proofs.Printing.{printed-then}
 use borrow.Author.Needs.{needs}
 use Rattle.report.proofs.put_answer.Statement.{statement}

@@ -1,12 +1,11 @@
 -- `report::put_decimal` meets its contract: one digit, or two.
 -- Assumes nothing.
-use mathlib.Core.Path.{_≡_, refl}
+use mathlib.Core.Path.{_≡_}
 use mathlib.Core.List.{[], _∷_}
 use Prim.Native.Nat.{ℕ, _+_, _/_, _%_, _<_, _≤_}
 use native.Mathlib.Omega.{arith}
 use borrow.Author.Tests.{lt-ltb, le-ltb}
 use Rattle.report.specs.Line.{decimalOf}
-use Rattle.report.specs.Printed.{Printed}
 use Rattle.report.proofs.Printing.{printed-then}
 use borrow.Author.Needs.{needs}
 use Rattle.report.proofs.put_decimal.Statement.{statement}

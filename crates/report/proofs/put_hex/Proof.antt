@@ -1,8 +1,8 @@
 -- `report::put_hex` meets its contract. The invariant: the digits of the first i bytes are written.
 -- Assumes nothing.
-use mathlib.Core.Path.{_≡_, refl}
-use mathlib.Core.List.{List, [], _∷_, _++_}
-use Prim.Native.Nat.{ℕ, _+_, _*_, _-_, _≤_, _<_}
+use mathlib.Core.Path.{_≡_}
+use mathlib.Core.List.{[]}
+use Prim.Native.Nat.{_+_, _*_, _-_, _≤_}
 use native.Mathlib.Omega.{arith}
 use lib.ListN.{length, take}
 use lib.Seq.{take-length}
@@ -11,7 +11,6 @@ use Rattle.report.specs.Line.{hexOf}
 use Rattle.report.proofs.Hex.{hexOf-suc}
 use Rattle.report.specs.Printed.{Printed}
 use Rattle.report.proofs.Printing.{printed-none, printed-then}
-use borrow.Author.Needs.{needs}
 use Rattle.report.proofs.put_hex.Statement.{statement}
 use Rattle.report.proofs.put_hex.Tie as tie
 

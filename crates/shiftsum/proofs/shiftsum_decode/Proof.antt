@@ -1,12 +1,10 @@
 -- `shiftsum::shiftsum_decode` meets its contract.
 -- Assumes nothing.
-use mathlib.Core.Path.{_≡_, sym, ap, _∙_}
-use Prim.Native.Nat.{ℕ, _≤_, _*_, _^_}
+use mathlib.Core.Path.{_≡_, sym, _∙_}
 use native.Mathlib.Omega.{arith}
 use lib.ListN.{length, take}
 use lib.Seq.{length-take-le}
 use Rattle.codebook.proofs.Described.{params-sizes}
-use Rattle.shiftsum.specs.Packed.{packed}
 use Rattle.shiftsum.proofs.Room.{room-enough, into-refused, into-decoded}
 use borrow.Author.Needs.{needs}
 use Rattle.shiftsum.proofs.shiftsum_decode.Statement.{statement}

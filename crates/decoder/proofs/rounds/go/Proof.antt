@@ -11,8 +11,6 @@ use Rattle.book.specs.Layout.{width, symbolDigits, bookOf}
 use Rattle.decoder.proofs.Running.{Left, left-all, stepped-size, left-more, ended-stalled, ended-mended, ended-spent}
 use Rattle.decoder.proofs.rounds.go.Statement.{statement}
 use Rattle.decoder.proofs.rounds.go.Tie as tie
-use Rattle.decoder.proofs.rounds.go.Reads as reads
-use Rattle.decoder.proofs.rounds.go.Lts as lts
 
 abbrev Inv-loop : tie.InvT-loop
 Inv-loop book c g r m₀ most w₀ made₀ m w made =

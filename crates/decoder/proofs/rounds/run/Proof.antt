@@ -1,7 +1,6 @@
 -- `decoder::rounds::run` meets its contract.
 -- Assumes nothing.
-use mathlib.Core.Path.{_≡_, refl, sym, ap, _∙_}
-use mathlib.Core.Bool.{true, false}
+use mathlib.Core.Path.{refl, sym, _∙_}
 use native.Mathlib.Omega.{arith}
 use borrow.Author.Needs.{needs}
 use Rattle.codebook.proofs.Described.{params-sizes, params-degree-sizes, params-generator, generator-loaded, book-size}
