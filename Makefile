@@ -1,11 +1,57 @@
 # `make run` and `make test` are all a newcomer needs; both work from a fresh clone.
-.PHONY: run test clean
+.PHONY: run test cases fuzz bench build install uninstall clean
+
+VERSION = 0.1.0
+RT = rt
+INSTALL = install
+PREFIX = /usr/local
+INCLUDEDIR = $(PREFIX)/include
+LIBDIR = $(PREFIX)/lib
+BINDIR = $(PREFIX)/bin
+# Where a package is put together; no part of the paths that shiftsum.pc names.
+DESTDIR =
+
+archive = target/staticlib/libshiftsum.a
+program = target/bin/decode_stream
 
 run:
-	@tests/show_cases
+	@examples/show
 
 test:
 	@tests/gate
 
+# The fourteen worked cases, proved and shown.
+cases:
+	@tests/show_cases
+
+# Longer than in the gate, as in make fuzz FUZZ_SECONDS=3600.
+FUZZ_SECONDS = 600
+fuzz:
+	@$(RT) staticlib shiftsum
+	@FUZZ_SECONDS=$(FUZZ_SECONDS) tests/fuzz/run
+
+# Times against C, as ratios; no test.
+bench: build
+	@bench/run
+
+# rt proves and compiles again only what has changed.
+build:
+	$(RT) staticlib shiftsum
+	$(RT) check decode_stream
+
+install: build
+	$(INSTALL) -d '$(DESTDIR)$(INCLUDEDIR)' '$(DESTDIR)$(LIBDIR)/pkgconfig' '$(DESTDIR)$(BINDIR)'
+	$(INSTALL) -m 644 include/shiftsum.h '$(DESTDIR)$(INCLUDEDIR)/shiftsum.h'
+	$(INSTALL) -m 644 $(archive) '$(DESTDIR)$(LIBDIR)/libshiftsum.a'
+	$(INSTALL) -m 755 $(program) '$(DESTDIR)$(BINDIR)/decode_stream'
+	sed -e 's|@PREFIX@|$(PREFIX)|' -e 's|@INCLUDEDIR@|$(INCLUDEDIR)|' -e 's|@LIBDIR@|$(LIBDIR)|' -e 's|@VERSION@|$(VERSION)|' shiftsum.pc.in \
+		> '$(DESTDIR)$(LIBDIR)/pkgconfig/shiftsum.pc'
+	chmod 644 '$(DESTDIR)$(LIBDIR)/pkgconfig/shiftsum.pc'
+
+# Folders stay: others may use them.
+uninstall:
+	rm -f '$(DESTDIR)$(INCLUDEDIR)/shiftsum.h' '$(DESTDIR)$(LIBDIR)/libshiftsum.a'
+	rm -f '$(DESTDIR)$(LIBDIR)/pkgconfig/shiftsum.pc' '$(DESTDIR)$(BINDIR)/decode_stream'
+
 clean:
-	rm -rf target tests/reference/target
+	rm -rf target tests/*/target tests/fuzz/reference_c/target

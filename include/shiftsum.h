@@ -1,16 +1,39 @@
 /*
  * shiftsum: a proved coder for cyclic codes with an iterated shift-sum decoder.
  *
- * A symbol is a byte below q = 2^p. A word is n = 2^s - 1 symbols; a message is k = n - degree(g) symbols. s, p, the generator g and the dual words
- * come from a codebook: 70 + 64 * L bytes, L from 1 to 32 (see README).
+ * A symbol is a byte below q = 2^p. A word is n = 2^s - 1 symbols, place j the coefficient of x^j; a message is k = n - degree(g) symbols. s, p, the
+ * generator g and the dual words come from a codebook, which every call is given:
  *
- * Every call is a pure function of its arguments: no state, no allocation, no input or output. It ends for every input and may be made from any
- * thread. A refused call writes to none of its buffers.
+ *     offset          bytes   content
+ *     0               1, 2    1; s from 2 to 6, and p, which divides s
+ *     3               1, 63   2; g, coefficients from x^0, leading one 1; it divides x^n - 1
+ *     67              1, 2    3; I, most rounds, 1 to 63, and D, most places of a count in the update rule, 1 to n
+ *     70 + 64 l       1, 63   4; dual word l: 1 at place 0, its product with g is zero, all of one weight, no two equal; l below L, L from 1 to 32
  *
- * The caller's duties, which no call can check:
- *   - no pointer is null, also where its length is 0;
- *   - a length is the count of bytes that may be read, or written, behind its pointer;
- *   - a buffer that is written overlaps no other buffer of the call.
+ * Places from n on are zero. A codebook that breaks a rule is refused by number.
+ *
+ *     uint8_t word[7], answer[7], message[4];                        book A of the tests has n 7, k 4, q 2
+ *     uint32_t r = shiftsum_code(book, 134, frame, 4, word, 7);      0: coded
+ *     word[2] ^= 1;                                                  a symbol goes wrong on the way
+ *     r = shiftsum_decode(book, 134, word, 7, answer, 7);
+ *     if (SHIFTSUM_REFUSAL(r) != 0)
+ *         refused(SHIFTSUM_REFUSAL(r));                              by number; nothing was written
+ *     else if (SHIFTSUM_KIND(r) == SHIFTSUM_CLEAN || SHIFTSUM_KIND(r) == SHIFTSUM_MENDED)
+ *         r = shiftsum_read(book, 134, answer, 7, message, 4);       the answer is a code word: message is frame again
+ *     else
+ *         hold(word);                                                Stalled or Spent: no code word was reached
+ *
+ * What every call does:
+ *   - It is a pure function of its arguments: no state, no allocation, no input or output, no errno. Any number of threads may call at once.
+ *   - It ends for every input.
+ *   - It writes its one output whole, or, where it is refused, not at all. Every other buffer is only read.
+ *   - It takes less than SHIFTSUM_STACK bytes of stack. This is measured, not proved.
+ *
+ * What the caller sees to, since no call can:
+ *   - No pointer is null, also where its length is 0. Memory needs no alignment.
+ *   - A length is the count of bytes that may be read, or written, behind its pointer.
+ *   - The output overlaps neither the codebook nor the input. The codebook and the input may overlap each other.
+ *   - No other thread writes to these buffers, or reads the output, during the call.
  */
 #ifndef SHIFTSUM_H
 #define SHIFTSUM_H
@@ -22,47 +45,89 @@
 extern "C" {
 #endif
 
+/* Bytes of an accepted codebook: 70 + 64 L. */
+#define SHIFTSUM_BOOK_MIN 134
+#define SHIFTSUM_BOOK_MAX 2118
+
+/* Symbols of a word: n. A message has 1 to n - 1. */
+#define SHIFTSUM_WORD_MIN 3
+#define SHIFTSUM_WORD_MAX 63
+
+/* Bytes of stack that are enough for any call. */
+#define SHIFTSUM_STACK 65536
+
 /*
- * The result is four bytes in a number. The lowest is 0, or the number of the refusal, and then the other three are 0. The first number that applies
- * is returned:
+ * A result is four bytes in a number. The lowest is 0, or the number of the refusal, and then the other three are 0. The first number that applies
+ * is the one returned:
  *
- *    1  codebook: its length                       7  codebook: a dual word's place 0, its product with g, or its weight
- *    2  codebook: a kind byte                      8  codebook: two equal dual words
- *    3  codebook: s or p                           9  input: not k symbols (code), not n symbols (read, decode)
- *    4  codebook: a symbol of q or more,          10  output: its size is not exact (word and answer n bytes, message k)
- *       or a nonzero place from n on              11  input: a symbol of q or more
- *    5  codebook: the generator                   12  read: not a code word
- *    6  codebook: I or D
+ *      1  codebook: its length                                              check, code, read, decode
+ *      2  codebook: a kind byte                                             check, code, read, decode
+ *      3  codebook: s or p                                                  check, code, read, decode
+ *      4  codebook: a symbol of q or more, or a nonzero place from n on     check, code, read, decode
+ *      5  codebook: the generator                                           check, code, read, decode
+ *      6  codebook: I or D                                                  check, code, read, decode
+ *      7  codebook: a dual word's place 0, product with g, or weight        check, code, read, decode
+ *      8  codebook: two dual words are equal                                check, code, read, decode
+ *      9  input: not k symbols (code), not n symbols (read, decode)                code, read, decode
+ *     10  output: its length is not exact, n (code, decode) or k (read)            code, read, decode
+ *     11  input: a symbol of q or more                                             code, read, decode
+ *     12  input: not a code word                                                         read
+ *
+ * (13, the inverse of zero, is of the field's operations and is not met here.)
  */
 #define SHIFTSUM_REFUSAL(result) ((unsigned)((result) & 0xffu))
 
 /* check: the count L of dual words. */
 #define SHIFTSUM_DUAL_WORDS(result) ((unsigned)(((result) >> 8) & 0xffu))
 
-/* decode: how many places answer and received word differ in, how many rounds were made, and the kind of answer. */
+/* decode: how many places answer and received word differ in, how many rounds were made, and the kind of answer; all 0 of a refused call. */
 #define SHIFTSUM_CHANGED(result) ((unsigned)(((result) >> 8) & 0xffu))
 #define SHIFTSUM_ROUNDS(result) ((unsigned)(((result) >> 16) & 0xffu))
 #define SHIFTSUM_KIND(result) ((char)(((result) >> 24) & 0xffu))
 
 /*
- * The kinds of answer. Clean: a code word was received. Mended: a code word was reached; it need not be the one that was sent. Stalled, Spent: no
- * code word was reached, and the answer is the word as received.
+ * The kinds of answer.
+ *   Clean    a code word was received, and is the answer; 0 rounds, 0 changed.
+ *   Mended   a code word was reached, and is the answer.
+ *   Stalled  a round, which is counted, found nothing to change. The answer is the word as received, 0 changed.
+ *   Spent    I rounds reached no code word. The answer is the word as received, 0 changed.
+ * A code word, Clean or Mended, need not be the one that was sent: enough errors lead to another, and no decoder can tell.
  */
 #define SHIFTSUM_CLEAN 'C'
 #define SHIFTSUM_MENDED 'M'
 #define SHIFTSUM_STALLED 'S'
 #define SHIFTSUM_SPENT 'X'
 
-/* Whether a codebook is accepted: 0 with L, or a number from 1 to 8. */
+/*
+ * Whether a codebook is accepted.
+ *   book     book_len bytes, any
+ * Returns no refusal and L in SHIFTSUM_DUAL_WORDS, or a refusal from 1 to 8. The other functions check the codebook too, each time: it need not be
+ * checked first.
+ */
 uint32_t shiftsum_check(const uint8_t *book, size_t book_len);
 
-/* Writes the code word of a message: k symbols in, n bytes out. */
+/*
+ * Codes a message: writes the product of message and g.
+ *   message  k symbols, from x^0
+ *   word     n bytes, written
+ * Returns 0, or a refusal from 1 to 11. shiftsum_read gives the message back from the word.
+ */
 uint32_t shiftsum_code(const uint8_t *book, size_t book_len, const uint8_t *message, size_t message_len, uint8_t *word, size_t word_len);
 
-/* Writes the message of a code word: n symbols in, k bytes out. */
+/*
+ * Reads a code word: writes its quotient by g.
+ *   word     n symbols
+ *   message  k bytes, written
+ * Returns 0, or a refusal from 1 to 12. shiftsum_code gives the word back from the message.
+ */
 uint32_t shiftsum_read(const uint8_t *book, size_t book_len, const uint8_t *word, size_t word_len, uint8_t *message, size_t message_len);
 
-/* Decodes a received word: n symbols in, n bytes out. */
+/*
+ * Decodes a received word.
+ *   received n symbols
+ *   answer   n bytes, written
+ * Returns no refusal and the kind of answer, the rounds and the count of changed places, or a refusal from 1 to 11.
+ */
 uint32_t shiftsum_decode(const uint8_t *book, size_t book_len, const uint8_t *received, size_t received_len, uint8_t *answer, size_t answer_len);
 
 #ifdef __cplusplus

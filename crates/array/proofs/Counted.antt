@@ -4,7 +4,7 @@ use mathlib.Core.Path.{_≡_, refl, sym, subst}
 use mathlib.Core.Bool.{Bool, true, false}
 use Prim.Native.Nat.{ℕ, _+_, _≤_, _<_, zero-le}
 use native.Mathlib.Omega.{arith}
-use mir.Syntax.{w64}
+use mir.Syntax.{w8, w64}
 use mir.Val.{boolByte, Fits}
 use Rattle.range.specs.Fold.{indicator, count}
 use Rattle.range.proofs.Count.{count-le}
@@ -28,9 +28,16 @@ module _ {n : ℕ} {p : ℕ → Bool} {j t : ℕ} (h : Counted n p j t) where
   counted-le : t ≤ j
   counted-le = omega (arith, count-le j p)
 
+  counted-under : j < n → (b : Bool) → t + boolByte b ≤ n
+  counted-under l true = omega (arith, counted-le)
+  counted-under l false = omega (arith, counted-le)
+
   pub counted-fits : j < n → Fits w64 n → (b : Bool) → Fits w64 (t + boolByte b)
-  counted-fits l f true = omega (arith, counted-le)
-  counted-fits l f false = omega (arith, counted-le)
+  counted-fits l f b = omega (arith, counted-under l b)
+
+  -- a byte holds the count
+  pub counted-byte : j < n → n ≤ 255 → (b : Bool) → Fits w8 (t + boolByte b)
+  counted-byte l f b = omega (arith, counted-under l b)
 
   pub counted-end : n ≤ j → (t ≡ count n p) × (t ≤ n)
   counted-end l = (subst (λ (k : ℕ). t ≡ count k p) (omega arith) (h .counted), omega (arith, counted-le))

@@ -150,7 +150,7 @@ pub struct Divided {
 }
 
 // One step of the division by g, of degree d: x times the remainder so far and the next coefficient, less the multiple of g that takes x^d away.
-pub fn divide_step(p: u8, d: usize, g: [u8; 63], rest: [u8; 63], a: u8) -> [u8; 63]
+fn divide_step(p: u8, d: usize, g: [u8; 63], rest: [u8; 63], a: u8) -> [u8; 63]
     requires { ⌜ Sizes p d × Stored p d g × Stored p d rest × (a < 2 ^ p) ⌝ }
     ensures { λ r. ⌜ r ≡ padded 63 d (reduce (gf p) d (place g) (place rest) a) ⌝ }
 {

@@ -11,19 +11,23 @@ use Rattle.range.specs.Table.{table, padded}
 use Rattle.range.proofs.Tests.{same-test, and-left, and-right}
 use Rattle.range.proofs.Table.{table-at}
 use Rattle.field.specs.Field.{FieldOps, FieldLaws}
+use Rattle.field.specs.Symbols.{gf}
 use Rattle.field.proofs.Gf.{gf-laws}
 use Rattle.word.specs.Word.{at}
+use Rattle.word.specs.Division.{divides}
 use Rattle.word.specs.CyclicCode.{isCode}
 use Rattle.word.proofs.Place.{at-lt}
 use Rattle.word.proofs.Division as D
 use Rattle.array.specs.Stored as S
 use Rattle.array.specs.Stored.{place, Stored}
-use Rattle.book.specs.Book.{Book, Accepted}
+use Rattle.book.specs.Book.{Book, Accepted, isCodeWord}
 use Rattle.book.specs.Layout.{width, symbolDigits, wordLength, fieldOf, bookOf}
 use Rattle.book.specs.Conditions.{limitsOk, refusal}
 use Rattle.book.proofs.Sound.{sound}
 use Rattle.book.proofs.Accepting.{Sizes, accepted}
-use Rattle.codebook.specs.Params.{Describes}
+use Rattle.tables.specs.Multiples.{wordOf}
+use Rattle.tables.proofs.Degree.{divides-by}
+use Rattle.codebook.specs.Params.{Tabulated, Describes}
 use Rattle.codebook.specs.declared.Params.{Params}
 use Rattle.codebook.proofs.Tested.{readable}
 use Rattle.codebook.proofs.Reading.{sized, generator-is}
@@ -96,13 +100,9 @@ module _ (bytes : List ℕ) (c : Params) (d : Describes bytes c) where
   pub params-degree-sizes : S.Sizes (c .p) (c .degree)
   params-degree-sizes = rw (d .p-is, d .degree-is) (degree-sizes bytes (d .accepted))
 
-  -- a word, the generator and a matrix, as the functions below ask for them
+  -- a word and a matrix, as the functions below ask for them
   pub params-stored : {w : List ℕ} → Stored (symbolDigits bytes) (bookOf width bytes .n) w → Stored (c .p) (c .n) w
   params-stored h = rw (d .p-is, d .n-is) h
-
-  pub params-generator : {g : List ℕ} → ((j : ℕ) → place g j ≡ bookOf width bytes .generator j) → Stored (c .p) (c .degree) g
-  params-generator h =
-      record { symbol = λ j l. rw (d .p-is, h j) (book-accepted bytes (d .accepted) .generates .symbols j) }
 
   pub params-matrix : {size : ℕ} → size ≡ fieldOf bytes .q * bookOf width bytes .n → size ≡ 2 ^ c .p * c .n
   params-matrix h = rw (d .p-is, d .n-is) h
@@ -117,3 +117,30 @@ module _ (bytes : List ℕ) (c : Params) (d : Describes bytes c) where
   -- a body's place is within the book
   pub book-size : 134 ≤ length bytes
   book-size = let h = readable bytes (d .accepted) .whole in omega (arith, h .size, h .count-low)
+
+  -- ---- the table of the generator
+
+  pub generator-stored : Stored (c .p) (c .n) (padded 63 (c .n) (λ j. place bytes (4 + j)))
+  generator-stored =
+      record { symbol = λ j l. rw (d .p-is, generator-loaded refl refl j) (book-accepted bytes (d .accepted) .generates .symbols j) }
+
+  module _ {t : List ℕ} (h : Tabulated bytes (c .p) (c .n) t) where
+    -- the test for a code word, as it is made by the table and as it is defined
+    pub code-tabulated : (w : List ℕ)
+        → divides (gf (c .p)) (c .degree) (wordOf (c .n) t) (c .n) (place w) ≡ isCodeWord (fieldOf bytes) (bookOf width bytes) (at (bookOf width bytes .n) w)
+    unfolding isCode
+    code-tabulated w =
+        divides-by (gf (c .p)) (c .degree) same (c .n) (place w)
+        ∙ rw (d .p-is, d .n-is, d .degree-is) (code-at bytes (d .accepted) w)
+      where
+        same : (i : ℕ) → i < c .degree → wordOf (c .n) t i ≡ bookOf width bytes .generator i
+        same i l =
+            let inside : i < c .n = omega (arith, d .n-is, d .degree-is, book-accepted bytes (d .accepted) .generates .degree-lt) in
+            h .word i ∙ at-lt (c .n) _ inside ∙ generator-loaded refl refl i
+
+  -- what the division by the table asks of the degree
+  pub degree-low : 1 ≤ c .degree
+  degree-low = omega (arith, d .degree-is, book-accepted bytes (d .accepted) .generates .degree-pos)
+
+  pub degree-high : c .degree < c .n
+  degree-high = omega (arith, d .n-is, d .degree-is, book-accepted bytes (d .accepted) .generates .degree-lt)

@@ -1,3 +1,4 @@
+pub mod Bounded
 pub mod Tested
 pub mod Reading
 pub mod Generator

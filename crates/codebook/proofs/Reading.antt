@@ -96,11 +96,11 @@ module _ {bytes : List ℕ} {p n : ℕ} {g : List ℕ} (h : Read bytes p n g) wh
   unfolding limitsTest limitsOk bookOf
   limits-test = rw (h .sized .n-is)
 
-  pub dual-test : (l : ℕ) {b : List ℕ} {wanted : ℕ} → b ≡ padded 63 n (bodyPlace bytes (dualAt width l)) → wanted ≡ weight n (bookOf width bytes .dual 0)
-      → dualTest p n (at n g) (at n b) wanted ≡ dualOk (fieldOf bytes) (bookOf width bytes) l
+  pub dual-test : (l : ℕ) {b : List ℕ} {wanted : ℕ} {G : ℕ → ℕ} → ((j : ℕ) → G j ≡ at n g j) → b ≡ padded 63 n (bodyPlace bytes (dualAt width l))
+      → wanted ≡ weight n (bookOf width bytes .dual 0) → dualTest p n G (at n b) wanted ≡ dualOk (fieldOf bytes) (bookOf width bytes) l
   unfolding dualTest dualOk bookOf
-  dual-test l e f =
-      ap₂ (dualTest p n (at n g)) (dual-loaded (h .sized) l e) f ∙ ap products (fold-cong _&&_ true n (λ m k.
+  dual-test l {b} {wanted} same e f =
+      ap (λ (G : ℕ → ℕ). dualTest p n G (at n b) wanted) (fun-ext same) ∙ ap₂ (dualTest p n (at n g)) (dual-loaded (h .sized) l e) f ∙ ap products (fold-cong _&&_ true n (λ m k.
       ap (λ (x : ℕ). eqb x 0) (product-cong (gf p) laws n (λ u k. at-lt n g k ∙ ap (λ (G : ℕ → ℕ). G u) generator-is) (λ j. refl) m)))
       ∙ rw (h .p-is, h .sized .n-is)
     where

@@ -1,19 +1,20 @@
 -- What the code reads off a book's bytes once, and what `check` answers.
 -- Assumes nothing.
 use mathlib.Core.Path.{_≡_}
-use mathlib.Core.Bool.{Bool, _&&_}
+use mathlib.Core.Bool.{Bool, cond, _&&_}
 use mathlib.Core.List.{List, [], _∷_}
-use Prim.Native.Nat.{ℕ, suc, _+_, _≤_}
-use lib.Dec.{T, eqb, leb}
+use Prim.Native.Nat.{ℕ, suc, _+_, _^_, _≤_}
+use lib.Dec.{T, eqb, leb, ltb}
 use lib.ListN.{length}
 use Rattle.range.specs.Fold.{all}
-use Rattle.range.specs.Table.{padded}
+use Rattle.range.specs.Table.{table, padded}
 use Rattle.field.specs.Answer.{Answer, answer, done, refused}
 use Rattle.field.specs.Symbols.{gf}
-use Rattle.word.specs.Word.{weight, product}
+use Rattle.word.specs.Word.{at, weight, product}
 use Rattle.word.specs.Division.{divides}
 use Rattle.word.specs.CyclicCode.{unity}
 use Rattle.array.specs.Stored.{place}
+use Rattle.tables.specs.Multiples.{wordOf, Multiples}
 use Rattle.book.specs.Layout.{width, dualAt, dualCount, symbolDigits, wordLength, degreeOf, bookOf}
 use Rattle.book.specs.Conditions.{sizesOk, symbolsOk, refusal}
 use Rattle.codebook.specs.declared.Checked.{Checked}
@@ -41,6 +42,11 @@ pub record Readable (bytes : List ℕ) : Type 0 where
   pub sizes : T (sizesOk bytes)
   pub symbols : T (symbolsOk width bytes)
 
+-- the number below which each place of a body must be: q, and from place n on 1
+pub record Bounds (bytes bounds : List ℕ) : Type 0 where
+  pub digits : 1 ≤ symbolDigits bytes
+  pub bound : bounds ≡ table 63 (λ j. cond (ltb j (wordLength bytes)) (2 ^ symbolDigits bytes) 1)
+
 -- n is the length of the words in bytes of a right length
 pub record Sized (bytes : List ℕ) (n : ℕ) : Type 0 where
   pub whole : Whole bytes
@@ -54,6 +60,11 @@ pub record Read (bytes : List ℕ) (p n : ℕ) (g : List ℕ) : Type 0 where
   pub sized : Sized bytes n
   pub p-is : p ≡ symbolDigits bytes
   pub g-is : g ≡ padded 63 n (λ j. place bytes (4 + j))
+
+-- t is the table of the multiples of the generator in bytes
+pub record Tabulated (bytes : List ℕ) (p n : ℕ) (t : List ℕ) : Type 0 where
+  pub multiples : Multiples p n t
+  pub word : (j : ℕ) → wordOf n t j ≡ at n (padded 63 n (λ j. place bytes (4 + j))) j
 
 -- ---- the tests that the code makes of the conditions 5 to 7, each of what it asks alone
 

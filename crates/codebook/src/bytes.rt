@@ -1,12 +1,14 @@
 // The conditions 1 to 4, which ask for bytes one by one.
 ghost use mathlib.Core.Path.{_≡_};
+ghost use mathlib.Core.Bool.{cond};
 ghost use Prim.Native.Nat.{_+_, _-_, _^_, _≤_};
-ghost use lib.Dec.{T, eqb};
+ghost use lib.Dec.{T, eqb, ltb};
 ghost use lib.ListN.{length};
 ghost use Rattle.range.specs.Fold.{all};
-ghost use Rattle.book.specs.Layout.{width, dualAt, dualCount, byte, symbolDigits, wordLength};
-ghost use Rattle.book.specs.Conditions.{lengthOk, kindsOk, sizesOk, placeOk, bodyOk, symbolsOk};
-ghost use Rattle.codebook.specs.Params.{Whole};
+ghost use Rattle.range.specs.Table.{table};
+ghost use Rattle.book.specs.Layout.{width, dualAt, dualCount, byte};
+ghost use Rattle.book.specs.Conditions.{lengthOk, kindsOk, sizesOk, bodyOk, symbolsOk};
+ghost use Rattle.codebook.specs.Params.{Whole, Bounds};
 
 // 1: the length is 70 + 64 * L, L from 1 to 32.
 pub fn length_ok(book: &[u8]) -> bool
@@ -81,10 +83,11 @@ pub fn symbols_ok(book: &[u8]) -> bool
 {
     let q = field::order(book[2]);
     let n = word_length(book[1]);
-    if !body_ok(q, n, book, 3) {
+    let bounds = bounds(q, n);
+    if !body_ok(bounds, book, 3) {
         return false;
     }
-    dual_bodies_ok(q, n, book)
+    dual_bodies_ok(bounds, book)
 }
 
 // The kind bytes of the dual words.
@@ -103,43 +106,43 @@ fn dual_kinds_ok(book: &[u8]) -> bool
     true
 }
 
-// Whether the symbol c may stand at place j.
-fn place_ok(q: u8, n: usize, j: usize, c: u8) -> bool
-    ensures { λ r. ⌜ r ≡ placeOk q n j c ⌝ }
+// The bound of each place of a body: q at the places below n, and 1 from there on, so that only 0 is below it.
+fn bounds(q: u8, n: usize) -> [u8; 63]
+    requires { ⌜ n ≤ 63 ⌝ }
+    ensures { λ r. ⌜ r ≡ table 63 (λ j. cond (ltb j n) q 1) ⌝ }
 {
-    if q <= c {
-        return false;
-    }
-    if j < n {
-        return true;
-    }
-    c == 0
-}
-
-// The body whose kind byte is at `kind`.
-fn body_ok(q: u8, n: usize, book: &[u8], kind: usize) -> bool
-    requires { ⌜ (kind + 64 ≤ length (now book)) × (q ≡ 2 ^ symbolDigits (now book)) × (n ≡ wordLength (now book)) ⌝ }
-    ensures { λ r. ⌜ r ≡ bodyOk width (now (book .entry)) kind ⌝ }
-{
+    let mut out = [1u8; 63];
     let mut j = 0;
-    while j < 63 {
-        if !place_ok(q, n, j, book[kind + 1 + j]) {
-            return false;
-        }
+    while j < n {
+        out[j] = q;
         j += 1;
     }
-    true
+    out
+}
+
+// The body whose kind byte is at `kind`: the symbols that are not below their bound are counted, with no branch.
+fn body_ok(bounds: [u8; 63], book: &[u8], kind: usize) -> bool
+    requires { ⌜ (kind + 64 ≤ length (now book)) × Bounds (now book) bounds ⌝ }
+    ensures { λ r. ⌜ r ≡ bodyOk width (now (book .entry)) kind ⌝ }
+{
+    let mut bad: u8 = 0;
+    let mut j = 0;
+    while j < 63 {
+        bad += (bounds[j] <= book[kind + 1 + j]) as u8;
+        j += 1;
+    }
+    bad == 0
 }
 
 // The bodies of the dual words.
-fn dual_bodies_ok(q: u8, n: usize, book: &[u8]) -> bool
-    requires { ⌜ Whole (now book) × (q ≡ 2 ^ symbolDigits (now book)) × (n ≡ wordLength (now book)) ⌝ }
+fn dual_bodies_ok(bounds: [u8; 63], book: &[u8]) -> bool
+    requires { ⌜ Whole (now book) × Bounds (now book) bounds ⌝ }
     ensures { λ r. ⌜ r ≡ all (dualCount width (length (now (book .entry)))) (λ l. bodyOk width (now (book .entry)) (dualAt width l)) ⌝ }
 {
     let count = dual_count(book);
     let mut l = 0;
     while l < count {
-        if !body_ok(q, n, book, 70 + 64 * l) {
+        if !body_ok(bounds, book, 70 + 64 * l) {
             return false;
         }
         l += 1;

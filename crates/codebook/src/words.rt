@@ -1,17 +1,16 @@
 // The conditions 5 to 8, which ask for products of whole words.
 ghost use mathlib.Core.Path.{_≡_};
 ghost use mathlib.Core.Bool.{not};
-ghost use Prim.Native.Nat.{suc, _<_, _≤_};
+ghost use Prim.Native.Nat.{ℕ, _+_, _*_, _^_, _<_, _≤_};
 ghost use lib.ListN.{length};
 ghost use Rattle.range.specs.Fold.{all};
-ghost use Rattle.field.specs.Symbols.{gf};
+ghost use Rattle.range.specs.Table.{padded};
 ghost use Rattle.word.specs.Word.{at};
-ghost use Rattle.word.specs.Division.{divides};
-ghost use Rattle.word.specs.CyclicCode.{unity};
 ghost use Rattle.array.specs.Stored.{place, Sizes, Stored};
+ghost use Rattle.tables.specs.Multiples.{wordOf, Multiples};
 ghost use Rattle.book.specs.Layout.{width, dualCount, fieldOf, degreeOf, bookOf};
 ghost use Rattle.book.specs.Conditions.{dualsOk, alike, distinctOk, bookRefusal};
-ghost use Rattle.codebook.specs.Params.{Readable, Sized, Read, generatorTest, limitsTest, dualTest};
+ghost use Rattle.codebook.specs.Params.{Readable, Sized, Read, Tabulated, generatorTest, limitsTest, dualTest};
 
 // The first number from 5 to 8 that applies, or 0.
 pub fn refusal(book: &[u8]) -> u8
@@ -21,13 +20,15 @@ pub fn refusal(book: &[u8]) -> u8
     let p = book[2];
     let n = crate::bytes::word_length(book[1]);
     let g = array::load(book, 4, n);
-    if !generator_ok(p, n, g) {
+    let mut t = table_room();
+    tabulate(book, p, n, &mut t);
+    if !generator_ok(p, n, g, &t) {
         return 5;
     }
     if !limits_ok(n, book[68], book[69]) {
         return 6;
     }
-    if !duals_ok(p, n, g, book) {
+    if !duals_ok(p, n, book, &t) {
         return 7;
     }
     if !distinct_ok(n, book) {
@@ -52,26 +53,25 @@ pub fn degree(n: usize, g: [u8; 63]) -> usize
     d
 }
 
-// Whether g, of degree d, divides x^n - 1: the division goes over the 1 at the top, n - 1 zeros, and the 1 at the end.
-fn divides_unity(p: u8, n: usize, d: usize, g: [u8; 63]) -> bool
-    requires { ⌜ Sizes p d × Stored p d g × (1 ≤ n) × (n ≤ 63) ⌝ }
-    ensures { λ r. ⌜ r ≡ divides (gf p) d (place g) (suc n) (unity n) ⌝ }
+// Room for the table of the generator's multiples. Only its length matters: what is read of it is written first.
+pub fn table_room() -> [u8; 8192]
+    ensures { λ r. ⌜ 8192 ≡ length r ⌝ }
 {
-    let top = array::divide_step(p, d, g, [0u8; 63], 1);
-    let mut rest = top;
-    let mut i = 1;
-    while i < n {
-        let next = array::divide_step(p, d, g, rest, 0);
-        rest = next;
-        i += 1;
-    }
-    let last = array::divide_step(p, d, g, rest, 1);
-    array::is_zero(d, last)
+    [0; 8192]
+}
+
+// Makes the table of the generator's multiples.
+pub fn tabulate(book: &[u8], p: u8, n: usize, t: &mut [u8])
+    requires { ⌜ Sizes p n × (4 + n ≤ length (now book)) × Stored p n (padded 63 n (λ j. place (now book) (4 + j))) × (128 * 2 ^ p ≤ length (now t)) ⌝ }
+    ensures { λ _. ⌜ Tabulated (now (book .entry)) p n (now (t .exit)) ⌝ }
+{
+    let g = array::load(book, 4, n);
+    tables::tabulate(p, n, tables::widened(n, g), t);
 }
 
 // 5: g has leading coefficient 1, degree 1 or more, and divides x^n - 1.
-fn generator_ok(p: u8, n: usize, g: [u8; 63]) -> bool
-    requires { ⌜ Sizes p n × Stored p n g ⌝ }
+fn generator_ok(p: u8, n: usize, g: [u8; 63], t: &[u8]) -> bool
+    requires { ⌜ Sizes p n × Multiples p n (now t) × ((j : ℕ) → j < n → wordOf n (now t) j ≡ place g j) ⌝ }
     ensures { λ r. ⌜ r ≡ generatorTest p n (place g) ⌝ }
 {
     let d = degree(n, g);
@@ -82,7 +82,7 @@ fn generator_ok(p: u8, n: usize, g: [u8; 63]) -> bool
     if leading != 1 {
         return false;
     }
-    divides_unity(p, n, d, g)
+    tables::division::divides_unity(p, n, d, t)
 }
 
 // 6: the most rounds from 1 to 63, the most places from 1 to n.
@@ -101,25 +101,25 @@ fn limits_ok(n: usize, rounds: u8, places: u8) -> bool
     places as usize <= n
 }
 
-// 7 for one dual word b: symbol 1 at place 0, its product with g is zero, and its weight is the one wanted.
-fn dual_ok(p: u8, n: usize, g: [u8; 63], b: [u8; 63], wanted: usize) -> bool
-    requires { ⌜ Sizes p n × Stored p n g × Stored p n b ⌝ }
-    ensures { λ r. ⌜ r ≡ dualTest p n (at n g) (at n b) wanted ⌝ }
+// 7 for one dual word b: symbol 1 at place 0, its product with the table's word is zero, and its weight is the one wanted.
+fn dual_ok(p: u8, n: usize, b: [u8; 63], t: &[u8], wanted: usize) -> bool
+    requires { ⌜ Sizes p n × Stored p n b × Multiples p n (now t) ⌝ }
+    ensures { λ r. ⌜ r ≡ dualTest p n (wordOf n (now (t .entry))) (at n b) wanted ⌝ }
 {
     if b[0] != 1 {
         return false;
     }
-    let product = array::cyclic_product(p, n, g, b);
-    if !array::is_zero(n, product) {
+    let s = tables::support(n, b);
+    let product = tables::product(p, n, b, s, t);
+    if !tables::vanishes(n, &product) {
         return false;
     }
-    let own = array::weight(n, b);
-    own == wanted
+    s.count == wanted
 }
 
 // 7: over all dual words, whose weight is that of the first.
-fn duals_ok(p: u8, n: usize, g: [u8; 63], book: &[u8]) -> bool
-    requires { ⌜ Read (now book) p n g ⌝ }
+fn duals_ok(p: u8, n: usize, book: &[u8], t: &[u8]) -> bool
+    requires { ⌜ Read (now book) p n (padded 63 n (λ j. place (now book) (4 + j))) × Tabulated (now book) p n (now t) ⌝ }
     ensures { λ r. ⌜ r ≡ dualsOk (fieldOf (now (book .entry))) (bookOf width (now (book .entry))) ⌝ }
 {
     let count = crate::bytes::dual_count(book);
@@ -128,7 +128,7 @@ fn duals_ok(p: u8, n: usize, g: [u8; 63], book: &[u8]) -> bool
     let mut l = 0;
     while l < count {
         let b = array::load(book, 71 + 64 * l, n);
-        if !dual_ok(p, n, g, b, wanted) {
+        if !dual_ok(p, n, b, t, wanted) {
             return false;
         }
         l += 1;

@@ -1,6 +1,6 @@
 -- One round, from what its calls ensure.
 -- Assumes nothing.
-use mathlib.Core.Path.{_≡_, sym, ap, ap₂, _∙_, subst, fun-ext}
+use mathlib.Core.Path.{_≡_, sym, ap, ap₂, _∙_, subst}
 use mathlib.Core.Bool.{Bool, true, _&&_}
 use mathlib.Core.List.{List}
 use Prim.Native.Nat.{ℕ, _<_}
@@ -14,9 +14,10 @@ use Rattle.range.proofs.Loop.{padded-at}
 use Rattle.field.specs.Field.{FieldOps}
 use Rattle.field.specs.Symbols.{gf}
 use Rattle.word.specs.Word.{at}
-use Rattle.word.specs.CyclicCode.{isCode}
+use Rattle.word.specs.Division.{divides}
 use Rattle.word.proofs.Place.{at-lt}
 use Rattle.array.specs.Stored.{place, Stored}
+use Rattle.tables.specs.Multiples.{wordOf}
 use Rattle.book.specs.Book.{Book, isCodeWord}
 use Rattle.book.specs.Layout.{width, symbolDigits, fieldOf, bookOf}
 use Rattle.book.specs.Conditions.{refusal}
@@ -29,7 +30,7 @@ use Rattle.decoding.proofs.Update.{correction-below}
 use Rattle.decoding.proofs.Empty.{empty-zero}
 use Rattle.decoder.specs.Rounds.{listed, made, Ready, stepOf, Stepped}
 use Rattle.decoder.specs.declared.rounds.Step.{Step}
-use Rattle.codebook.proofs.Described.{book-laws, n-high, at-listed, code-at}
+use Rattle.codebook.proofs.Described.{book-laws, n-high, at-listed, code-tabulated}
 
 pub params-fillable : (bytes : List ℕ) (c : Params) → Describes bytes c → Fillable bytes (c .p) (c .n) (c .duals)
 unfolding bookOf
@@ -83,7 +84,7 @@ module _ (bytes : List ℕ) (e : refusal width bytes ≡ 0) where
         }
 
 -- the same, as the calls say it by the parameters c
-module _ (bytes : List ℕ) (c : Params) (g w m₀ : List ℕ) (h : Ready bytes c g w m₀) (m v w′ : List ℕ)
+module _ (bytes : List ℕ) (c : Params) (t w m₀ : List ℕ) (h : Ready bytes c t w m₀) (m v w′ : List ℕ)
     (hm : m ≡ matrix (fieldOf bytes) (bookOf width bytes) (at (c .n) w))
     (hv : (B : Book) → B .n ≡ c .n → B .most-places ≡ c .places → v ≡ padded 63 (c .n) (correction (gf (c .p)) B (cell (gf (c .p)) B m)))
     (hw : w′ ≡ padded 63 (c .n) (λ j. bitXor (place w j) (place v j))) where
@@ -102,12 +103,8 @@ module _ (bytes : List ℕ) (c : Params) (g w m₀ : List ℕ) (h : Ready bytes 
   pub round-stored : Stored (symbolDigits bytes) (bookOf width bytes .n) w′
   round-stored = corrected-stored bytes (d .accepted) w (h .word) m v w′ made-matrix made-corrections made-word
 
-  -- the test for a code word, as it is made and as it is defined
-  reached-test : isCode (gf (c .p)) (c .n) (c .degree) (place g) (place w′) ≡ isCodeWord (fieldOf bytes) (bookOf width bytes) (at (bookOf width bytes .n) w′)
-  reached-test = rw (d .p-is, d .n-is, d .degree-is, fun-ext (h .generator)) (code-at bytes (d .accepted) w′)
-
   pub round-done : {s : Step} (empty reached : Bool) → s ≡ stepOf bytes empty reached → all (c .n) (λ j. eqb (place v j) 0) ≡ empty
-      → isCode (gf (c .p)) (c .n) (c .degree) (place g) (place w′) ≡ reached → Stepped bytes w (record { step = s; word = w′ }) m
+      → divides (gf (c .p)) (c .degree) (wordOf (c .n) t) (c .n) (place w′) ≡ reached → Stepped bytes w (record { step = s; word = w′ }) m
   round-done empty reached s p q =
       stepped bytes (d .accepted) w (h .word) m v w′ made-matrix made-corrections made-word empty reached s
-      (rw (d .n-is) at p) (sym reached-test ∙ q)
+      (rw (d .n-is) at p) (sym (code-tabulated bytes c d (h .table-is) w′) ∙ q)

@@ -4,7 +4,7 @@ ghost use mathlib.Core.Bool.{_&&_};
 ghost use Prim.Native.Nat.{_*_, _^_, _≤_};
 ghost use lib.Dec.{eqb};
 ghost use lib.ListN.{length};
-ghost use Rattle.codebook.specs.Params.{Describes};
+ghost use Rattle.codebook.specs.Params.{Tabulated, Describes};
 ghost use Rattle.inputs.specs.Wrote.{Wrote};
 ghost use Rattle.decoder.specs.Refusals.{matrixInputRefusal, matrixRefusal, matrixBytes, decodeInputRefusal, decodeRefusal, decodeBytes};
 ghost use Rattle.decoder.specs.Decoded.{Decodes};
@@ -87,18 +87,21 @@ pub fn decode(book: &[u8], received: &[u8], answer: &mut [u8], entries: &mut [u1
         return Decoded::Refused(number);
     }
     let c = codebook::describe(book);
-    decode_checked(book, c, received, answer, entries)
+    let mut t = codebook::words::table_room();
+    codebook::prepare(book, c, &mut t);
+    decode_checked(book, c, &t, received, answer, entries)
 }
 
-// The same with a book that was accepted before: its parameters c are read off it once, for many words.
+// The same with a book that was accepted before: its parameters c and the table t of its generator are made once, for many words.
 pub fn decode_checked(
     book: &[u8],
     c: Params,
+    t: &[u8],
     received: &[u8],
     answer: &mut [u8],
     entries: &mut [u16],
 ) -> Decoded
-    requires { ⌜ Describes (now book) c ⌝ }
+    requires { ⌜ Describes (now book) c × Tabulated (now book) (c .p) (c .n) (now t) ⌝ }
     ensures { λ r. ⌜ Decodes (decodeInputRefusal (now (book .entry)) (now (received .entry)) (length (now (answer .entry))) (length (now (entries .entry))))
         (decodeBytes (now (book .entry)) (now (received .entry))) (now (answer .entry)) (now (entries .entry)) r (now (answer .exit)) (now (entries .exit)) ⌝ }
 {
@@ -110,7 +113,7 @@ pub fn decode_checked(
         return Decoded::Refused(number);
     }
     let r = array::load(received, 0, n);
-    let end = rounds::run(book, c, r, entries);
+    let end = rounds::run(book, c, t, r, entries);
     let kind = end.kind;
     let made = end.rounds;
     let word = end.word;

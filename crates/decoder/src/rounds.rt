@@ -1,11 +1,9 @@
 // The rounds of the decoder. A word is held by value; the matrix is a lent buffer.
 ghost use mathlib.Core.Path.{_≡_};
-ghost use Prim.Native.Nat.{_*_, _^_, _≤_};
+ghost use Prim.Native.Nat.{_*_, _^_};
 ghost use lib.ListN.{length};
-ghost use Rattle.field.specs.Symbols.{gf};
-ghost use Rattle.word.specs.CyclicCode.{isCode};
-ghost use Rattle.array.specs.Stored.{place, Sizes, Stored};
-ghost use Rattle.codebook.specs.Params.{Describes};
+ghost use Rattle.array.specs.Stored.{Stored};
+ghost use Rattle.codebook.specs.Params.{Tabulated, Describes};
 ghost use Rattle.decoder.specs.Refusals.{decodeBytes};
 ghost use Rattle.decoder.specs.Rounds.{listed, allRounds, Ready, Stepped, Ended};
 use crate::Kind;
@@ -31,19 +29,9 @@ pub struct End {
     pub word: [u8; 63],
 }
 
-// Whether g divides a word: the remainder is zero.
-fn is_code_word(p: u8, n: usize, d: usize, g: [u8; 63], w: [u8; 63]) -> bool
-    requires { ⌜ Sizes p d × (n ≤ 63) × Stored p d g × Stored p n w ⌝ }
-    ensures { λ r. ⌜ r ≡ isCode (gf p) n d (place g) (place w) ⌝ }
-{
-    let parts = array::divide(p, n, d, g, w);
-    let remainder = parts.remainder;
-    array::is_zero(d, remainder)
-}
-
 // One round: makes the matrix and the update set, subtracts, and tests for a code word.
-fn round(book: &[u8], c: Params, g: [u8; 63], w: [u8; 63], m: &mut [u16]) -> Rounded
-    requires { ⌜ Ready (now book) c g w (now m) ⌝ }
+fn round(book: &[u8], c: Params, t: &[u8], w: [u8; 63], m: &mut [u16]) -> Rounded
+    requires { ⌜ Ready (now book) c (now t) w (now m) ⌝ }
     ensures { λ r. ⌜ Stepped (now (book .entry)) w r (now (m .exit)) ⌝ }
 {
     let n = c.n;
@@ -56,7 +44,7 @@ fn round(book: &[u8], c: Params, g: [u8; 63], w: [u8; 63], m: &mut [u16]) -> Rou
             word: next,
         };
     }
-    if is_code_word(c.p, n, c.degree, g, next) {
+    if tables::division::divides(c.p, n, c.degree, t, next) {
         return Rounded {
             step: Step::Reached,
             word: next,
@@ -69,15 +57,15 @@ fn round(book: &[u8], c: Params, g: [u8; 63], w: [u8; 63], m: &mut [u16]) -> Rou
 }
 
 // The rounds for a received word that is not a code word.
-fn go(book: &[u8], c: Params, g: [u8; 63], r: [u8; 63], m: &mut [u16]) -> End
-    requires { ⌜ Ready (now book) c g r (now m) ⌝ }
+fn go(book: &[u8], c: Params, t: &[u8], r: [u8; 63], m: &mut [u16]) -> End
+    requires { ⌜ Ready (now book) c (now t) r (now m) ⌝ }
     ensures { λ x. ⌜ Ended (now (book .entry)) (allRounds (now (book .entry)) (listed (now (book .entry)) r)) x (now (m .exit)) ⌝ }
 {
     let most = c.rounds;
     let mut w = r;
     let mut made: u8 = 0;
     while made < most {
-        let s = round(book, c, g, w, m);
+        let s = round(book, c, t, w, m);
         let step = s.step;
         let next = s.word;
         made += 1;
@@ -109,13 +97,11 @@ fn go(book: &[u8], c: Params, g: [u8; 63], r: [u8; 63], m: &mut [u16]) -> End
 }
 
 // Decodes the word r: Clean where it is a code word, with a matrix of zeros; else by rounds.
-pub fn run(book: &[u8], c: Params, r: [u8; 63], m: &mut [u16]) -> End
-    requires { ⌜ Describes (now book) c × Stored (c .p) (c .n) r × (length (now m) ≡ 2 ^ c .p * c .n) ⌝ }
+pub fn run(book: &[u8], c: Params, t: &[u8], r: [u8; 63], m: &mut [u16]) -> End
+    requires { ⌜ Describes (now book) c × Tabulated (now book) (c .p) (c .n) (now t) × Stored (c .p) (c .n) r × (length (now m) ≡ 2 ^ c .p * c .n) ⌝ }
     ensures { λ x. ⌜ Ended (now (book .entry)) (decodeBytes (now (book .entry)) (listed (now (book .entry)) r)) x (now (m .exit)) ⌝ }
 {
-    let n = c.n;
-    let g = array::load(book, 4, n);
-    if is_code_word(c.p, n, c.degree, g, r) {
+    if tables::division::divides(c.p, c.n, c.degree, t, r) {
         matrix::clear(m);
         return End {
             kind: Kind::Clean,
@@ -123,5 +109,5 @@ pub fn run(book: &[u8], c: Params, r: [u8; 63], m: &mut [u16]) -> End
             word: r,
         };
     }
-    go(book, c, g, r, m)
+    go(book, c, t, r, m)
 }

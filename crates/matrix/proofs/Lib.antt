@@ -1,5 +1,11 @@
 pub mod Raised
-pub mod Running
-pub mod Columns
+pub mod Inverting
 pub mod Dual
+pub mod Cells
+pub mod Rows
+pub mod Starting
+pub mod Placing
+pub mod RowTable
+pub mod CellSteps
+pub mod Listed
 pub mod Whole

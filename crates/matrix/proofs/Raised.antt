@@ -1,7 +1,7 @@
 -- Numbers added to the cells of a matrix, once and again: what a loop keeps that adds one term after another.
 -- Assumes nothing.
 use mathlib.Core.Path.{_≡_, refl, sym, ap, _∙_, subst}
-use mathlib.Core.Bool.{Bool}
+use mathlib.Core.Bool.{Bool, cond}
 use mathlib.Core.List.{List}
 use Prim.Native.Nat.{ℕ, zero, suc, _+_, _*_, _^_, _≤_, _<_, zero-le}
 use native.Mathlib.Nat.{add-zero, zero-add, add-assoc, le-of-eq, le-trans}
@@ -14,6 +14,7 @@ use lib.Seq.{getD-set-same, getD-set-other, ext-getD}
 use Rattle.range.specs.Fold.{total, indicator}
 use Rattle.range.specs.Table.{table}
 use Rattle.range.proofs.Table.{table-length, table-at, table-same}
+use Rattle.range.proofs.Fold.{fold-unit, sums}
 use Rattle.range.proofs.Loop.{fold-none, fold-more}
 use Rattle.array.specs.Stored.{place, Sizes}
 use Rattle.matrix.specs.Count.{raised, Room, Countable}
@@ -38,26 +39,30 @@ raised-of m m′ f e h =
     h k b ∙ sym (raised-at m f b))
 
 -- nothing is added
-pub raised-none : (m : List ℕ) (f : ℕ → ℕ) → ((k : ℕ) → f k ≡ 0) → m ≡ raised m f
+raised-none : (m : List ℕ) (f : ℕ → ℕ) → ((k : ℕ) → f k ≡ 0) → m ≡ raised m f
 raised-none m f z = raised-of m m f refl (λ k l. sym (ap (λ (x : ℕ). place m k + x) (z k) ∙ add-zero (place m k)))
+
+-- a number is added to one cell
+pub raised-cell : (m : List ℕ) (x y : ℕ) → x < length m → set m x (place m x + y) ≡ raised m (λ k. cond (eqb x k) y 0)
+raised-cell m x y l = raised-of m _ _ (length-set m x _) (λ k _. go k (ℕ-discrete k x))
+  where
+    go : (k : ℕ) → Dec (k ≡ x) → place (set m x (place m x + y)) k ≡ place m k + cond (eqb x k) y 0
+    go k (yes e) =
+        subst (λ (z : ℕ). place (set m x (place m x + y)) z ≡ place m z + cond (eqb x z) y 0) (sym e)
+        (getD-set-same m x _ 0 l ∙ ap (λ (t : Bool). place m x + cond t y 0) (sym (eq-eqb x x refl)))
+    go k (no h) =
+        getD-set-other m x k _ 0 h ∙ sym (ap (λ (t : Bool). place m k + cond t y 0) (ne-eqb x k (λ e. h (sym e))) ∙ add-zero (place m k))
 
 -- one cell is counted up
 pub raised-one : (m : List ℕ) (x : ℕ) → x < length m → set m x (place m x + 1) ≡ raised m (λ k. indicator (eqb x k))
-raised-one m x l = raised-of m _ _ (length-set m x _) (λ k _. go k (ℕ-discrete k x))
-  where
-    go : (k : ℕ) → Dec (k ≡ x) → place (set m x (place m x + 1)) k ≡ place m k + indicator (eqb x k)
-    go k (yes e) =
-        subst (λ (y : ℕ). place (set m x (place m x + 1)) y ≡ place m y + indicator (eqb x y)) (sym e)
-        (getD-set-same m x _ 0 l ∙ ap (λ (t : Bool). place m x + indicator t) (sym (eq-eqb x x refl)))
-    go k (no h) =
-        getD-set-other m x k _ 0 h ∙ sym (ap (λ (t : Bool). place m k + indicator t) (ne-eqb x k (λ e. h (sym e))) ∙ add-zero (place m k))
+raised-one m x l = raised-cell m x 1 l
 
 module _ (m₀ m : List ℕ) (f : ℕ → ℕ) (e : m ≡ raised m₀ f) where
-  pub raised-long : length m ≡ length m₀
+  raised-long : length m ≡ length m₀
   raised-long = ap length e ∙ raised-length m₀ f
 
   -- added to twice
-  pub raised-twice : (m′ : List ℕ) (g : ℕ → ℕ) → m′ ≡ raised m g → m′ ≡ raised m₀ (λ k. f k + g k)
+  raised-twice : (m′ : List ℕ) (g : ℕ → ℕ) → m′ ≡ raised m g → m′ ≡ raised m₀ (λ k. f k + g k)
   raised-twice m′ g d =
       raised-of m₀ m′ _ (ap length d ∙ raised-length m g ∙ raised-long) (λ k l.
       ap (λ (x : List ℕ). place x k) d ∙ raised-at m g (subst (λ (x : ℕ). k < x) (sym raised-long) l)
@@ -107,6 +112,12 @@ adding-none n term m = record { within = zero-le; added = raised-none m _ (λ k.
 module _ {n : ℕ} {term : ℕ → ℕ → ℕ} {m₀ m : List ℕ} {i : ℕ} (h : Adding n term m₀ m i) where
   pub adding-long : length m ≡ length m₀
   adding-long = raised-long m₀ m _ (h .added)
+
+  -- a cell that no term has met yet
+  pub adding-fresh : (k : ℕ) → k < length m₀ → ((j : ℕ) → j < i → term k j ≡ 0) → place m k ≡ place m₀ k
+  adding-fresh k l z =
+      ap (λ (x : List ℕ). place x k) (h .added) ∙ raised-at m₀ _ l ∙ ap (λ (x : ℕ). place m₀ k + x) (fold-unit _+_ 0 sums i _ z)
+      ∙ add-zero (place m₀ k)
 
   pub adding-more : (m′ : List ℕ) → i < n → m′ ≡ raised m (λ k. term k i) → Adding n term m₀ m′ (i + 1)
   adding-more m′ l e =

@@ -20,6 +20,8 @@ use Rattle.word.specs.Word.{at, nonzero}
 use Rattle.word.proofs.Place.{at-lt}
 use Rattle.array.specs.Stored.{place, Sizes, Stored}
 use Rattle.array.proofs.Filled.{read-padded}
+use Rattle.tables.specs.Multiples.{wordOf, Tabled}
+use Rattle.tables.proofs.Tables.{widened-stored, widened-at}
 use Rattle.book.specs.Book.{Book}
 use Rattle.book.specs.Layout.{width, dualAt, dualCount, symbolDigits, fieldOf, bookOf}
 use Rattle.book.specs.Conditions.{lengthOk}
@@ -38,6 +40,15 @@ by-duals p laws B r =
     table-same (2 ^ p * B .n) (λ k _. fold-cong _+_ 0 (B .dual-count) (λ l _. fold-cong _+_ 0 (B .n) (λ h _.
     ap (λ (x : ℕ). indicator (nonzero (B .dual l h) && eqb (gf p .mul (gf p .inv (B .dual l h)) x) (k / B .n)))
     (sym (check-product (gf p) laws B (B .dual l) r h (k % B .n))))))
+
+-- the received word is the word of the table
+module _ {p n : ℕ} (s : Sizes p n) (r : List ℕ) {w : List ℕ} (e : w ≡ padded 64 n (place r)) where
+  pub word-stored : Stored p n r → Stored p 64 w
+  word-stored ok = subst (Stored p 64) (sym e) (widened-stored p 64 n r (omega (arith, s .n-high)) ok)
+
+  pub word-read : {t₀ t : List ℕ} → Tabled p n w t₀ t → wordOf n t ≡ at n r
+  word-read h =
+      fun-ext (λ j. h .word j ∙ ap (λ (w : List ℕ). at n w j) e ∙ widened-at 64 n r (s .n-low) (omega (arith, s .n-high)) j)
 
 module _ {bytes : List ℕ} {p n duals : ℕ} (ok : Fillable bytes p n duals) where
   pub fill-sizes : Sizes p n

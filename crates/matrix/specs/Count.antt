@@ -3,7 +3,7 @@
 use mathlib.Core.Path.{_≡_}
 use mathlib.Core.Bool.{_&&_}
 use mathlib.Core.List.{List}
-use Prim.Native.Nat.{ℕ, _+_, _*_, _/_, _%_, _^_, _≤_, _<_}
+use Prim.Native.Nat.{ℕ, _+_, _*_, _/_, _%_, _^_, _≤_}
 use lib.Dec.{eqb}
 use lib.ListN.{length}
 use Rattle.range.specs.Fold.{total, indicator}
@@ -17,10 +17,6 @@ use Rattle.array.specs.Stored.{place, Sizes}
 unfoldable pub raised : List ℕ → (ℕ → ℕ) → List ℕ
 raised m more = table (length m) (λ k. place m k + more k)
 
--- 1 where step i of a run of columns counts in cell k: the columns are those from `column` on, and the word v has their rows from place `from` on
-unfoldable pub stepAdds : ℕ → List ℕ → ℕ → ℕ → ℕ → ℕ → ℕ
-stepAdds n v from column k i = indicator (eqb (place v (from + i) * n + (column + i)) k)
-
 -- 1 where place h of a dual word counts in cell k: its symbol b there is not zero, and the check value of k's column is k's row. w is the product of the
 -- dual word and the received word
 unfoldable pub symbolAdds : ℕ → ℕ → (ℕ → ℕ) → ℕ → ℕ → ℕ → ℕ
@@ -33,14 +29,6 @@ dualAdds p n b r k = total n (λ h. symbolAdds p n (product (gf p) n b r) (b h) 
 -- every cell is at most `most`
 pub record Room (m : List ℕ) (most : ℕ) : Type 0 where
   pub cell : (k : ℕ) → place m k ≤ most
-
--- what a run asks: it stays within the word and the columns, and the rows it names are in the matrix
-pub record Run (n : ℕ) (v : List ℕ) (from column steps : ℕ) (m : List ℕ) : Type 0 where
-  pub n-high : n ≤ 63
-  pub places : from + steps ≤ n
-  pub columns : column + steps ≤ n
-  pub rows : (j : ℕ) → j < n → place v j * n + n ≤ length m
-  pub room : Room m 65400
 
 -- what the layers above ask: the matrix has a cell for each symbol and column, with room left for what they add (at most 63 for a dual word)
 pub record Countable (p n : ℕ) (m : List ℕ) (most : ℕ) : Type 0 where

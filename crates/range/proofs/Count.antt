@@ -2,14 +2,15 @@
 -- Assumes nothing.
 use mathlib.Core.Path.{_≡_, refl, sym, ap, _∙_, subst}
 use mathlib.Core.Logic.{_≢_, _⊎_, inl, inr}
-use mathlib.Core.Bool.{Bool, true, false, cond}
+use mathlib.Core.Bool.{Bool, true, false, not, cond}
 use Prim.Native.Nat.{ℕ, zero, suc, _+_, _*_, max, _≤_, _<_}
-use native.Mathlib.Nat.{le-refl, le-trans, le-of-eq, le-step, le-of-suc-le-suc, not-suc-le-zero, eq-or-lt-of-le, suc-mul}
+use native.Mathlib.Nat.{le-refl, le-trans, le-of-eq, le-step, le-of-suc-le-suc, not-suc-le-zero, eq-or-lt-of-le, suc-mul, mul-zero}
 use native.Mathlib.Omega.{arith}
 use lib.Dec.{T, eqb, eqb→eq}
-use Rattle.range.specs.Fold.{fold, total, indicator, count, largest}
-use Rattle.range.proofs.Tests.{cond-true}
+use Rattle.range.specs.Fold.{fold, total, indicator, count, largest, all}
+use Rattle.range.proofs.Tests.{same-test, eq→eqb, cond-true}
 use Rattle.range.proofs.Fold.{fold-cong, fold-op, fold-pick, sums}
+use Rattle.range.proofs.Table.{all-at, all-of}
 
 -- a part of a sum is at most the sum
 pub part-le : (n : ℕ) (f : ℕ → ℕ) {i : ℕ} → i < n → f i ≤ total n f
@@ -26,12 +27,33 @@ unfolding fold
 fold-le zero b f h = omega arith
 fold-le (suc n) b f h = omega (arith, fold-le n b f (λ i l. h i (le-step l)), h n (le-refl (suc n)), suc-mul n b)
 
+-- equal terms
+pub total-equal : (n b : ℕ) (f : ℕ → ℕ) → ((i : ℕ) → i < n → f i ≡ b) → total n f ≡ n * b
+unfolding fold
+total-equal zero b f h = omega arith
+total-equal (suc n) b f h = omega (arith, total-equal n b f (λ i l. h i (le-step l)), h n (le-refl (suc n)), suc-mul n b)
+
 indicator-le : (b : Bool) → indicator b ≤ 1
 indicator-le true = omega arith
 indicator-le false = omega arith
 
 pub count-le : (n : ℕ) (p : ℕ → Bool) → count n p ≤ n
 count-le n p = le-trans (fold-le n 1 (λ i. indicator (p i)) (λ i l. indicator-le (p i))) (omega arith)
+
+-- none is counted where every one fails
+pub none-counted : (n : ℕ) (p : ℕ → Bool) → eqb (count n p) 0 ≡ all n (λ i. not (p i))
+none-counted n p =
+    same-test _ _
+    (λ t. all-of n _ (λ i l. fails (p i) (le-trans (part-le n (λ i. indicator (p i)) l) (le-of-eq (eqb→eq (count n p) 0 t)))))
+    (λ t. eq→eqb (total-equal n 0 _ (λ i l. none (p i) (all-at n _ t i l)) ∙ mul-zero n))
+  where
+    fails : (b : Bool) → indicator b ≤ 0 → T (not b)
+    fails true h = absurd (not-suc-le-zero h)
+    fails false h = tt
+
+    none : (b : Bool) → T (not b) → indicator b ≡ 0
+    none true t = absurd t
+    none false t = refl
 
 -- ---- the one that passes a test
 
@@ -99,9 +121,3 @@ largest-lt (suc n) b f pos h =
     let low : largest n f < b = largest-lt n b f pos (λ i l. h i (le-step l)) in
     let last : f n < b = h n (le-refl (suc n)) in
     omega arith
-
--- equal terms
-pub total-equal : (n b : ℕ) (f : ℕ → ℕ) → ((i : ℕ) → i < n → f i ≡ b) → total n f ≡ n * b
-unfolding fold
-total-equal zero b f h = omega arith
-total-equal (suc n) b f h = omega (arith, total-equal n b f (λ i l. h i (le-step l)), h n (le-refl (suc n)), suc-mul n b)

@@ -104,7 +104,9 @@ pub extern "C" fn shiftsum_decode(book: &[u8], received: &[u8], answer: &mut [u8
         return number as u32;
     }
     let c = codebook::describe(book);
+    let mut t = codebook::words::table_room();
+    codebook::prepare(book, c, &mut t);
     let size = decoder::matrix_size(c.p, c.n);
     let mut room = matrix_room();
-    pack_decoded(decoder::decode_checked(book, c, received, answer, &mut room[..size]))
+    pack_decoded(decoder::decode_checked(book, c, &t, received, answer, &mut room[..size]))
 }

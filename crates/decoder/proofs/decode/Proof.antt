@@ -15,8 +15,20 @@ returns c = decodes-refused _ _ (decode-refused _ _ (c .before .refusal .ensures
 describe-requires : tie.Need-describe-requires
 describe-requires c κs = sym (c .before .refusal .ensures) ∙ c .if1 .left
 
+table-room-requires : tie.Need-table-room-requires
+table-room-requires c κs = search needs
+
+slice-aggregate-prepare : tie.Need-slice-aggregate-prepare
+slice-aggregate-prepare c = search needs
+
+prepare-requires : tie.Need-prepare-requires
+prepare-requires c κs = (c .before .before .describe .ensures, search needs)
+
+slice-aggregate-decode-checked : tie.Need-slice-aggregate-decode-checked
+slice-aggregate-decode-checked c = search needs
+
 decode-checked-requires : tie.Need-decode-checked-requires
-decode-checked-requires c κs = c .before .before .describe .ensures
+decode-checked-requires c κs = let s = c .before .before .before .before in (s .before .before .before .describe .ensures, s .prepare .ensures)
 
 same-length : tie.Need-same-length
 same-length c = search needs
@@ -25,7 +37,22 @@ same-length-2 : tie.Need-same-length-2
 same-length-2 c = search needs
 
 returns-2 : tie.Need-returns-2
-returns-2 c = decodes-same (decode-accepted _ _ (c .before .before .before .before .before .before .before .before .before .refusal .ensures) (c .before .before .before .before .before .before .before .before .if1 .left) _ _) (c .before .before .before .before .decode-checked .ensures)
+returns-2 c =
+    let s = c .before .before .before .before .before .before .before .before .before .before .before .before .before in
+    decodes-same (decode-accepted _ _ (s .before .refusal .ensures) (s .if1 .left) _ _) (c .before .before .before .before .decode-checked .ensures)
 
 pub decode-spec : {M : Type 1} → statement M
-decode-spec = tie.close (tie.spec refusal-requires returns describe-requires decode-checked-requires same-length same-length-2 returns-2)
+decode-spec =
+    tie.close
+    (tie.spec
+    refusal-requires
+    returns
+    describe-requires
+    table-room-requires
+    slice-aggregate-prepare
+    prepare-requires
+    slice-aggregate-decode-checked
+    decode-checked-requires
+    same-length
+    same-length-2
+    returns-2)

@@ -13,10 +13,10 @@ use Rattle.decoder.proofs.decode_checked.Statement.{statement}
 use Rattle.decoder.proofs.decode_checked.Tie as tie
 
 exact-requires : tie.Need-exact-requires
-exact-requires c κs = let s = params-sizes _ _ (c .before .before .before .before .pre) in (s .p-high, s .n-high)
+exact-requires c κs = let s = params-sizes _ _ (c .before .before .before .before .before .pre .0) in (s .p-high, s .n-high)
 
 order-requires : tie.Need-order-requires
-order-requires c κs = params-sizes _ _ (c .before .before .before .before .before .pre) .p-high
+order-requires c κs = params-sizes _ _ (c .before .before .before .before .before .before .pre .0) .p-high
 
 refusal-requires : tie.Need-refusal-requires
 refusal-requires c κs = search needs
@@ -24,21 +24,22 @@ refusal-requires c κs = search needs
 returns : tie.Need-returns
 returns c =
     let s = c .before in
-    decodes-refused _ _ (decode-number _ _ (s .before .before .before .before .before .before .before .pre) _ _ _ (s .refusal .ensures) (s .before .order .ensures) (s .before .before .exact .ensures)) (c .if1 .taken)
+    decodes-refused _ _ (decode-number _ _ (s .before .before .before .before .before .before .before .before .pre .0) _ _ _ (s .refusal .ensures) (s .before .order .ensures) (s .before .before .exact .ensures)) (c .if1 .taken)
 
 load-requires : tie.Need-load-requires
 load-requires c κs =
     let s = c .before in
-    let d = s .before .before .before .before .before .before .before .pre in
+    let d = s .before .before .before .before .before .before .before .before .pre .0 in
     (params-sizes _ _ d .n-high, omega (arith, input _ _ d _ _ (s .refusal .ensures) (s .before .order .ensures) (c .if1 .left) .size))
 
 run-requires : tie.Need-run-requires
 run-requires c κs =
     let s = c .before .before .before in
-    let a = s .before .before .before .before .before .before .before .args in
-    let d = s .before .before .before .before .before .before .before .pre in
+    let a = s .before .before .before .before .before .before .before .before .args in
+    let d = s .before .before .before .before .before .before .before .before .pre .0 in
     let i = input _ _ d _ _ (s .refusal .ensures) (s .before .order .ensures) (c .before .before .if1 .left) in (
       d,
+      s .before .before .before .before .before .before .before .before .pre .1,
       loaded-stored _ _ d _ _ (s .refusal .ensures) (s .before .order .ensures) (c .before .before .if1 .left) _ (c .before .load .ensures),
       exact-sizes (length (a .answer .now)) (a .c .n) (length (a .entries .now)) (2 ^ a .c .p * a .c .n) (s .before .before .exact .ensures) (i .sizes) .1,
     )
@@ -46,16 +47,16 @@ run-requires c κs =
 store-requires : tie.Need-store-requires
 store-requires c κs =
     let s = c .before .before .before .before .before .before .before .before in
-    let a = s .before .before .before .before .before .before .before .args in
-    let d = s .before .before .before .before .before .before .before .pre in
+    let a = s .before .before .before .before .before .before .before .before .args in
+    let d = s .before .before .before .before .before .before .before .before .pre .0 in
     let i = input _ _ d _ _ (s .refusal .ensures) (s .before .order .ensures) (c .before .before .before .before .before .before .before .if1 .left) in
     omega (arith, exact-sizes (length (a .answer .now)) (a .c .n) (length (a .entries .now)) (2 ^ a .c .p * a .c .n) (s .before .before .exact .ensures) (i .sizes) .0, params-sizes _ _ d .n-high)
 
 distance-requires : tie.Need-distance-requires
-distance-requires c κs = params-sizes _ _ (c .before .before .before .before .before .before .before .before .before .before .before .before .before .before .before .before .before .before .pre) .n-high
+distance-requires c κs = params-sizes _ _ (c .before .before .before .before .before .before .before .before .before .before .before .before .before .before .before .before .before .before .before .pre .0) .n-high
 
-cast-t18 : tie.Need-cast-t18
-cast-t18 c = omega (arith, c .distance .ensures .1, params-sizes _ _ (c .before .before .before .before .before .before .before .before .before .before .before .before .before .before .before .before .before .before .before .pre) .n-high)
+cast-t19 : tie.Need-cast-t19
+cast-t19 c = omega (arith, c .distance .ensures .1, params-sizes _ _ (c .before .before .before .before .before .before .before .before .before .before .before .before .before .before .before .before .before .before .before .before .pre .0) .n-high)
 
 same-length : tie.Need-same-length
 same-length c = search needs
@@ -66,8 +67,8 @@ same-length-2 c = search needs
 returns-2 : tie.Need-returns-2
 returns-2 c =
     let s = c .before .before .before .before .before .before .before .before .before .before .before .before in
-    let a = s .before .before .before .before .before .before .before .args in
-    let d = s .before .before .before .before .before .before .before .pre in
+    let a = s .before .before .before .before .before .before .before .before .args in
+    let d = s .before .before .before .before .before .before .before .before .pre .0 in
     let z = c .before .before .before .before .before .before .before .before .before .before .before .if1 .left in
     let i = input _ _ d _ _ (s .refusal .ensures) (s .before .order .ensures) z in
     decodes-done _ _ d (a .received .now) (c .before .before .before .before .before .before .before .before .before .before .load .result) (loaded-listed _ _ d _ _ (s .refusal .ensures) (s .before .order .ensures) z _ (c .before .before .before .before .before .before .before .before .before .before .load .ensures)) _ _ (c .before .before .before .before .before .before .before .before .run .ensures) _
@@ -86,7 +87,7 @@ decode-checked-spec =
     run-requires
     store-requires
     distance-requires
-    cast-t18
+    cast-t19
     same-length
     same-length-2
     returns-2)

@@ -1,70 +1,53 @@
--- `matrix::count_dual` meets its contract. The invariant: the places below h are counted.
+-- `matrix::count_dual` meets its contract.
 -- Assumes nothing.
-use Prim.Native.Nat.{_-_}
-use mathlib.Core.Path.{_∙_}
-use native.Mathlib.Omega.{arith}
-use Rattle.word.specs.Word.{at}
-use Rattle.array.specs.Stored.{place}
-use Rattle.matrix.specs.Count.{symbolAdds}
-use Rattle.matrix.proofs.Raised.{raised-same, raised-countable, Adding, adding-none, adding-long, adding-more, adding-end}
-use Rattle.matrix.proofs.Dual.{places-le, product-stored, dual-counted}
+use Rattle.matrix.proofs.Dual.{few-size, dual-raised}
 use borrow.Author.Needs.{needs}
 use Rattle.matrix.proofs.count_dual.Statement.{statement}
 use Rattle.matrix.proofs.count_dual.Tie as tie
 
-abbrev Inv-loop : tie.InvT-loop
-Inv-loop p n m₀ b w h₀ m h = Adding n (λ k h. symbolAdds p n (at n w) (place b h) h k) m₀ m h
+support-requires : tie.Need-support-requires
+support-requires c κs = search needs
 
-abbrev μ-loop : tie.MeasureT-loop
-μ-loop p n m₀ b w h₀ m h = n - h
+product-requires : tie.Need-product-requires
+product-requires c κs = search needs
 
-cyclic-product-requires : tie.Need-cyclic-product-requires Inv-loop μ-loop
-cyclic-product-requires c κs = search needs
+count-requires : tie.Need-count-requires
+count-requires c κs = search (needs, few-size _ (c .before .before .if1 .taken))
 
-loop-holds : tie.Need-loop-holds Inv-loop μ-loop
-loop-holds c = adding-none _ _ _
+count-requires-2 : tie.Need-count-requires-2
+count-requires-2 c κs = search needs
 
-array-read-count-symbol : tie.Need-array-read-count-symbol Inv-loop μ-loop
-array-read-count-symbol c = search needs
+same-length : tie.Need-same-length
+same-length c = search needs
 
-count-symbol-requires : tie.Need-count-symbol-requires Inv-loop μ-loop
-count-symbol-requires c κs =
-    let s = c .before .before .before .before .before .pre in (
-      raised-countable _ _ _ (c .before .before .loop .inv .added) _ _ (s .0) (places-le _ _ _ _ _) (omega arith),
-      product-stored (s .0 .sizes) _ _ (c .before .before .before .cyclic-product .ensures),
-      s .1 .symbol _ (search needs),
-      search needs,
-    )
+same-length-2 : tie.Need-same-length-2
+same-length-2 c = search needs
 
-add-h : tie.Need-add-h Inv-loop μ-loop
-add-h c = search needs
-
-loop-less : tie.Need-loop-less Inv-loop μ-loop
-loop-less c = search needs
-
-loop-again : tie.Need-loop-again Inv-loop μ-loop
-loop-again c = adding-more (c .before .before .before .before .before .loop .inv) _ (c .before .before .before .before .loop-test .taken) (c .before .before .count-symbol .ensures)
-
-same-length : tie.Need-same-length Inv-loop μ-loop
-same-length c = adding-long (c .before .loop .inv)
-
-returns : tie.Need-returns Inv-loop μ-loop
+returns : tie.Need-returns
 returns c =
-    adding-end (c .before .loop .inv) (c .loop-test .left)
-    ∙ raised-same _ (λ k _. dual-counted (c .before .before .before .before .pre .0 .sizes) _ _ (c .before .before .cyclic-product .ensures) k)
+    let s = c .before .before .before .before in
+    let t = s .before .before .before .before in
+    dual-raised (t .before .before .before .before .before .before .pre .0 .sizes) _ _ (t .product .ensures) _ (s .count .ensures)
+
+same-length-3 : tie.Need-same-length-3
+same-length-3 c = search needs
+
+returns-2 : tie.Need-returns-2
+returns-2 c =
+    let s = c .before .before in
+    let t = s .before .before .before in
+    dual-raised (t .before .before .before .before .before .before .pre .0 .sizes) _ _ (t .product .ensures) _ (s .count2 .ensures)
 
 pub count-dual-spec : {M : Type 1} → statement M
 count-dual-spec =
     tie.close
     (tie.spec
-    Inv-loop
-    μ-loop
-    cyclic-product-requires
-    loop-holds
-    array-read-count-symbol
-    count-symbol-requires
-    add-h
-    loop-less
-    loop-again
+    support-requires
+    product-requires
+    count-requires
+    count-requires-2
     same-length
-    returns)
+    same-length-2
+    returns
+    same-length-3
+    returns-2)

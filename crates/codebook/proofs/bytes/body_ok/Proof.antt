@@ -1,41 +1,42 @@
--- `codebook::bytes::body_ok` meets its contract. The invariant: the places below j are right.
+-- `codebook::bytes::body_ok` meets its contract. The invariant: `bad` is the number of places below j that are not below their bound.
 -- Assumes nothing.
 use Prim.Native.Nat.{_-_}
-use Rattle.range.proofs.Loop.{Passing, passing-none, passing-more, passing-fails, passing-end}
-use Rattle.book.specs.Layout.{width, bodyPlace}
-use Rattle.book.specs.Conditions.{placeOk, bodyOk}
-use Rattle.codebook.proofs.Tested.{failed, passed}
+use native.Mathlib.Omega.{arith}
+use lib.Dec.{leb}
+use Rattle.array.specs.Stored.{place}
+use Rattle.array.proofs.Counted.{Counted, counted-none, counted-more, counted-byte, counted-end}
+use Rattle.book.specs.Layout.{bodyPlace}
+use Rattle.codebook.proofs.Bounded.{none-above}
 use borrow.Author.Needs.{needs}
 use Rattle.codebook.proofs.bytes.body_ok.Statement.{statement}
 use Rattle.codebook.proofs.bytes.body_ok.Tie as tie
 
 abbrev Inv-loop : tie.InvT-loop
-Inv-loop q n book kind j₀ j = Passing width (λ j. placeOk q n j (bodyPlace book kind j)) j
+Inv-loop book kind bounds bad₀ j₀ bad j = Counted 63 (λ j. leb (place bounds j) (bodyPlace book kind j)) j bad
 
 abbrev μ-loop : tie.MeasureT-loop
-μ-loop q n book kind j₀ j = width - j
+μ-loop book kind bounds bad₀ j₀ bad j = 63 - j
 
 loop-holds : tie.Need-loop-holds Inv-loop μ-loop
-loop-holds c = passing-none _ _
+loop-holds c = counted-none _ _
 
-add-place-ok : tie.Need-add-place-ok Inv-loop μ-loop
-add-place-ok c = search needs
+array-read-bad : tie.Need-array-read-bad Inv-loop μ-loop
+array-read-bad c = search needs
 
-add-place-ok-2 : tie.Need-add-place-ok-2 Inv-loop μ-loop
-add-place-ok-2 c = search needs
+add-bad : tie.Need-add-bad Inv-loop μ-loop
+add-bad c = search needs
 
-shared-slice-read-place-ok : tie.Need-shared-slice-read-place-ok Inv-loop μ-loop
-shared-slice-read-place-ok c = search needs
+add-bad-2 : tie.Need-add-bad-2 Inv-loop μ-loop
+add-bad-2 c = search needs
 
-place-ok-requires : tie.Need-place-ok-requires Inv-loop μ-loop
-place-ok-requires c κs = search needs
+shared-slice-read-bad : tie.Need-shared-slice-read-bad Inv-loop μ-loop
+shared-slice-read-bad c = search needs
 
-returns : tie.Need-returns Inv-loop μ-loop
-unfolding bodyOk
-returns c =
-    let s = c .before .before .before .before in
-    rw (← s .before .before .pre .1, ← s .before .before .pre .2)
-    (passing-fails (s .loop .inv) (search needs) (failed (c .before .place-ok .ensures) (c .if1 .taken)))
+cast-bad : tie.Need-cast-bad Inv-loop μ-loop
+cast-bad c = search needs
+
+add-bad-3 : tie.Need-add-bad-3 Inv-loop μ-loop
+add-bad-3 c = search (needs, counted-byte (c .before .before .loop .inv))
 
 add-j : tie.Need-add-j Inv-loop μ-loop
 add-j c = search needs
@@ -44,14 +45,10 @@ loop-less : tie.Need-loop-less Inv-loop μ-loop
 loop-less c = search needs
 
 loop-again : tie.Need-loop-again Inv-loop μ-loop
-loop-again c =
-    passing-more (c .before .before .before .before .loop .inv) (search needs) (passed (c .before .place-ok .ensures) (c .if1 .left))
+loop-again c = counted-more (c .before .before .loop .inv) (omega arith)
 
-returns-2 : tie.Need-returns-2 Inv-loop μ-loop
-unfolding bodyOk
-returns-2 c =
-    let s = c .before in
-    rw (← s .before .before .pre .1, ← s .before .before .pre .2) (passing-end (s .loop .inv) (search needs))
+returns : tie.Need-returns Inv-loop μ-loop
+returns c = none-above _ (c .before .before .pre .1) (counted-end (c .before .loop .inv) (omega arith) .0)
 
 pub body-ok-spec : {M : Type 1} → statement M
 body-ok-spec =
@@ -60,12 +57,13 @@ body-ok-spec =
     Inv-loop
     μ-loop
     loop-holds
-    add-place-ok
-    add-place-ok-2
-    shared-slice-read-place-ok
-    place-ok-requires
-    returns
+    array-read-bad
+    add-bad
+    add-bad-2
+    shared-slice-read-bad
+    cast-bad
+    add-bad-3
     add-j
     loop-less
     loop-again
-    returns-2)
+    returns)

@@ -11,10 +11,10 @@ use Rattle.codebook.proofs.bytes.dual_bodies_ok.Statement.{statement}
 use Rattle.codebook.proofs.bytes.dual_bodies_ok.Tie as tie
 
 abbrev Inv-loop : tie.InvT-loop
-Inv-loop q n book count l₀ l = Passing (dualCount width (length book)) (λ l. bodyOk width book (dualAt width l)) l
+Inv-loop bounds book count l₀ l = Passing (dualCount width (length book)) (λ l. bodyOk width book (dualAt width l)) l
 
 abbrev μ-loop : tie.MeasureT-loop
-μ-loop q n book count l₀ l = count - l
+μ-loop bounds book count l₀ l = count - l
 
 dual-count-requires : tie.Need-dual-count-requires Inv-loop μ-loop
 dual-count-requires c κs = search needs

@@ -2,6 +2,8 @@
 -- Assumes nothing.
 use Rattle.book.specs.Conditions.{symbolsOk}
 use Rattle.book.proofs.Accepting.{sizes}
+use Rattle.codebook.specs.Params.{Bounds}
+use Rattle.codebook.proofs.Bounded.{bounded}
 use Rattle.codebook.proofs.Tested.{failed, passed, exponent-high}
 use borrow.Author.Needs.{needs}
 use Rattle.codebook.proofs.bytes.symbols_ok.Statement.{statement}
@@ -19,15 +21,24 @@ shared-slice-read-word-length c = search needs
 word-length-requires : tie.Need-word-length-requires
 word-length-requires c κs = exponent-high _ (c .before .before .before .before .pre .1)
 
+bounds-requires : tie.Need-bounds-requires
+bounds-requires c κs = search needs
+
+-- the bounds that were made
+found : (c : tie.After-bounds) → Bounds (c .before .before .before .before .before .before .args .book .now) (c .bounds .result)
+found c =
+    let s = c .before in
+    bounded (s .before .before .before .before .before .pre .1) (s .before .before .order .ensures) (s .word-length .ensures .0) (c .bounds .ensures)
+
 body-ok-requires : tie.Need-body-ok-requires
-body-ok-requires c κs = search needs
+body-ok-requires c κs = (search needs, found c)
 
 returns : tie.Need-returns
 unfolding symbolsOk
 returns c = rw (failed (c .before .body-ok .ensures) (c .if1 .taken))
 
 dual-bodies-ok-requires : tie.Need-dual-bodies-ok-requires
-dual-bodies-ok-requires c κs = search needs
+dual-bodies-ok-requires c κs = (search needs, found (c .before .before))
 
 returns-2 : tie.Need-returns-2
 unfolding symbolsOk
@@ -41,6 +52,7 @@ symbols-ok-spec =
     order-requires
     shared-slice-read-word-length
     word-length-requires
+    bounds-requires
     body-ok-requires
     returns
     dual-bodies-ok-requires

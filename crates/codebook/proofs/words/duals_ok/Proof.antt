@@ -10,32 +10,32 @@ use Rattle.word.specs.Word.{weight}
 use Rattle.word.proofs.Place.{weight-at}
 use Rattle.book.specs.Layout.{width, dualAt, dualCount, byte, bodyPlace, fieldOf, bookOf}
 use Rattle.book.specs.Conditions.{dualOk, dualsOk}
-use Rattle.codebook.proofs.Reading.{dual-body, dual-loaded, read-sizes, body-stored, generator-stored, dual-test}
+use Rattle.codebook.proofs.Reading.{dual-body, dual-loaded, read-sizes, body-stored, dual-test}
 use Rattle.codebook.proofs.Tested.{failed, passed}
 use borrow.Author.Needs.{needs}
 use Rattle.codebook.proofs.words.duals_ok.Statement.{statement}
 use Rattle.codebook.proofs.words.duals_ok.Tie as tie
 
 abbrev Inv-loop : tie.InvT-loop
-Inv-loop p n g book count wanted l₀ l = Passing (dualCount width (length book)) (dualOk (fieldOf book) (bookOf width book)) l
+Inv-loop p n book t count wanted l₀ l = Passing (dualCount width (length book)) (dualOk (fieldOf book) (bookOf width book)) l
 
 abbrev μ-loop : tie.MeasureT-loop
-μ-loop p n g book count wanted l₀ l = count - l
+μ-loop p n book t count wanted l₀ l = count - l
 
 -- what was loaded of dual word l, and what was found of it
-body : (c : tie.After-load2 Inv-loop μ-loop) → let s = c .before .before in let t = s .before .before .before .before .before .args in
+body : (c : tie.After-load2 Inv-loop μ-loop) → let s = c .before .before in let t = s .before .before .before .before .before .before .args in
     c .load2 .result ≡ padded 63 (t .n) (bodyPlace (t .book .now) (dualAt width (s .loop .l)))
 body c =
-    let book = c .before .before .before .before .before .before .before .args .book .now in
+    let book = c .before .before .before .before .before .before .before .before .args .book .now in
     c .load2 .ensures ∙ padded-same 63 _ (λ j k. ap (byte book) (omega arith))
 
-found : (c : tie.After-dual-ok Inv-loop μ-loop) → let s = c .before .before .before in let book = s .before .before .before .before .before .args .book .now in
+found : (c : tie.After-dual-ok Inv-loop μ-loop) → let s = c .before .before .before in let book = s .before .before .before .before .before .before .args .book .now in
     c .dual-ok .result ≡ dualOk (fieldOf book) (bookOf width book) (s .loop .l)
 found c =
     let s = c .before .before .before .before in
-    let h = s .before .before .before .before .pre in
+    let h = s .before .before .before .before .before .pre in
     c .dual-ok .ensures
-    ∙ dual-test h _ (body (c .before)) (s .weight .ensures .0 ∙ weight-at _ _ ∙ ap (weight _) (dual-loaded (h .sized) 0 (s .before .load .ensures)))
+    ∙ dual-test (h .0) _ (h .1 .word) (body (c .before)) (s .weight .ensures .0 ∙ weight-at _ _ ∙ ap (weight _) (dual-loaded (h .0 .sized) 0 (s .before .load .ensures)))
 
 dual-count-requires : tie.Need-dual-count-requires Inv-loop μ-loop
 dual-count-requires c κs = search needs
@@ -60,8 +60,8 @@ load-requires-2 c κs = search needs
 
 dual-ok-requires : tie.Need-dual-ok-requires Inv-loop μ-loop
 dual-ok-requires c κs =
-    let h = c .before .before .before .before .before .before .before .pre in
-    (read-sizes h, generator-stored h, body-stored h _ (dual-body (h .readable) _ (search needs)) (body c))
+    let h = c .before .before .before .before .before .before .before .before .pre in
+    (read-sizes (h .0), body-stored (h .0) _ (dual-body (h .0 .readable) _ (search needs)) (body c), h .1 .multiples)
 
 returns : tie.Need-returns Inv-loop μ-loop
 unfolding dualsOk bookOf

@@ -1,7 +1,10 @@
 -- `codebook::words::generator_ok` meets its contract: each return rewrites with the tests that led there.
 -- Assumes nothing.
+use mathlib.Core.Path.{_∙_}
 use native.Mathlib.Omega.{arith}
 use borrow.Author.Tests.{le-leb, lt-leb, eq-eqb, ne-eqb}
+use Rattle.field.specs.Symbols.{gf}
+use Rattle.tables.proofs.Degree.{divides-by}
 use Rattle.codebook.specs.Params.{generatorTest}
 use borrow.Author.Needs.{needs}
 use Rattle.codebook.proofs.words.generator_ok.Statement.{statement}
@@ -22,13 +25,15 @@ unfolding generatorTest
 returns-2 c = let d = c .before .before .degree in rw (← d .ensures .0, le-leb 1 (d .result) (omega arith), ne-eqb _ _ (c .if2 .taken))
 
 divides-unity-requires : tie.Need-divides-unity-requires
-divides-unity-requires c κs = (search needs, record { symbol = λ j l. c .before .before .before .pre .1 .symbol j (omega arith) }, search needs, search needs)
+divides-unity-requires c κs = search needs
 
 returns-3 : tie.Need-returns-3
 unfolding generatorTest
 returns-3 c =
     let d = c .before .before .before .degree in
-    rw (← d .ensures .0, le-leb 1 (d .result) (omega arith), eq-eqb _ _ (c .before .if2 .left)) (c .divides-unity .ensures)
+    let s = c .before .before .before .before .before in
+    rw (← d .ensures .0, le-leb 1 (d .result) (omega arith), eq-eqb _ _ (c .before .if2 .left))
+    (c .divides-unity .ensures ∙ divides-by (gf (s .args .p)) (d .result) (λ i l. s .pre .2 i (omega (arith, d .ensures .1))) _ _)
 
 pub generator-ok-spec : {M : Type 1} → statement M
 generator-ok-spec =

@@ -1,26 +1,16 @@
 -- `decoder::rounds::run` meets its contract.
 -- Assumes nothing.
-use mathlib.Core.Path.{refl, sym, _∙_}
-use native.Mathlib.Omega.{arith}
+use mathlib.Core.Path.{sym, _∙_}
 use borrow.Author.Needs.{needs}
-use Rattle.codebook.proofs.Described.{params-sizes, params-degree-sizes, params-generator, generator-loaded, book-size}
+use Rattle.codebook.proofs.Described.{params-sizes, degree-low, degree-high}
 use Rattle.decoder.proofs.Decoding.{ready, decoded-clean, decoded-rounds}
 use Rattle.decoder.proofs.rounds.run.Statement.{statement}
 use Rattle.decoder.proofs.rounds.run.Tie as tie
 
-load-requires : tie.Need-load-requires
-load-requires c κs =
-    let h = c .before .before .pre .0 in
-    (params-sizes _ _ h .n-high, omega (arith, book-size _ _ h, params-sizes _ _ h .n-high))
-
-is-code-word-requires : tie.Need-is-code-word-requires
-is-code-word-requires c κs =
-    let h = c .before .before .before .pre in (
-      params-degree-sizes _ _ (h .0),
-      params-sizes _ _ (h .0) .n-high,
-      params-generator _ _ (h .0) (generator-loaded _ _ (h .0) refl (c .load .ensures)),
-      h .1,
-    )
+divides-requires : tie.Need-divides-requires
+divides-requires c κs =
+    let h = c .before .before .before .pre in
+    (params-sizes _ _ (h .0), degree-low _ _ (h .0), degree-high _ _ (h .0), h .2, h .1 .multiples)
 
 clear-requires : tie.Need-clear-requires
 clear-requires c κs = search needs
@@ -33,13 +23,13 @@ returns c =
     let s = c .before .before .before .before in
     let start = s .before .before .before .before .before in
     let h = start .pre in
-    decoded-clean _ _ _ _ (start .args .m .now) (ready _ _ _ _ _ (h .0) (s .before .before .load .ensures) (h .1) (h .2))
-    (sym (s .before .is-code-word .ensures) ∙ s .if1 .taken) (c .before .before .clear .ensures)
+    decoded-clean _ _ _ _ (start .args .m .now) (ready _ _ _ _ _ (h .0) (h .1) (h .2) (h .3)) (sym (s .before .divides .ensures) ∙ s .if1 .taken)
+    (c .before .before .clear .ensures)
 
 go-requires : tie.Need-go-requires
 go-requires c κs =
     let h = c .before .before .before .before .before .before .pre in
-    ready _ _ _ _ _ (h .0) (c .before .before .before .load .ensures) (h .1) (h .2)
+    ready _ _ _ _ _ (h .0) (h .1) (h .2) (h .3)
 
 same-length-2 : tie.Need-same-length-2
 same-length-2 c = search needs
@@ -49,8 +39,8 @@ returns-2 c =
     let s = c .before .before .before .before in
     let start = s .before .before .before .before .before in
     let h = start .pre in
-    decoded-rounds _ _ _ _ (start .args .m .now) (ready _ _ _ _ _ (h .0) (s .before .before .load .ensures) (h .1) (h .2))
-    (sym (s .before .is-code-word .ensures) ∙ s .if1 .left) (c .before .before .go .ensures)
+    decoded-rounds _ _ _ _ (start .args .m .now) (ready _ _ _ _ _ (h .0) (h .1) (h .2) (h .3)) (sym (s .before .divides .ensures) ∙ s .if1 .left)
+    (c .before .before .go .ensures)
 
 pub run-spec : {M : Type 1} → statement M
-run-spec = tie.close (tie.spec load-requires is-code-word-requires clear-requires same-length returns go-requires same-length-2 returns-2)
+run-spec = tie.close (tie.spec divides-requires clear-requires same-length returns go-requires same-length-2 returns-2)

@@ -1,0 +1,426 @@
+/*
+ * Measures the library against the transcription (literal.c) and the best C (fast.c, four times compiled): whole decodes, checks, rounds and growth.
+ * Every time is the least of many short runs, taken in turns, since the machine may be shared. First all must agree on every word.
+ *
+ *   bench BOOKS OUT                       writes OUT/table.txt, OUT/table.md, OUT/table.csv, OUT/growth.csv
+ *   bench words BOOKS BOOK CLASS COUNT    the book and words of a class (clean, one), as decode_stream reads them
+ */
+#define NAME gcc
+#include "fast.h"
+#include "literal.h"
+#include "shiftsum.h"
+
+#include <stdio.h>
+#include <stdlib.h>
+#include <string.h>
+#include <time.h>
+
+#define COMPILED(name) \
+    uint32_t name##_check(const uint8_t *, size_t); \
+    uint32_t name##_decode(const uint8_t *, size_t, const uint8_t *, size_t, uint8_t *, size_t);
+COMPILED(clang)
+COMPILED(gcc_avx2)
+COMPILED(clang_avx2)
+
+enum { OURS, LITERAL, GCC, CLANG, GCC_AVX2, CLANG_AVX2, WAYS, WORDS = 4, LEAST_TURNS = 60, LONGEST_BOOK = 2118, CLEAN = 0, ONE_ROUND, MOST_ROUNDS, CLASSES };
+
+typedef uint32_t Check(const uint8_t *, size_t);
+typedef uint32_t Decode(const uint8_t *, size_t, const uint8_t *, size_t, uint8_t *, size_t);
+
+static Check *const checks[WAYS] = {shiftsum_check, literal_check, gcc_check, clang_check, gcc_avx2_check, clang_avx2_check};
+static Decode *const decodes[WAYS] = {shiftsum_decode, literal_decode, gcc_decode, clang_decode, gcc_avx2_decode, clang_avx2_decode};
+static const char *const class_names[CLASSES] = {"clean", "one round", "most rounds"};
+
+typedef struct {
+    char name[32];
+    uint8_t bytes[LONGEST_BOOK];
+    size_t len, n, k;
+    unsigned q, duals, weight;
+} Book;
+
+/* Words of one class; all have the same number of rounds. */
+typedef struct {
+    uint8_t word[WORDS][63];
+    int count, rounds;
+    char kind;
+} Class;
+
+static int ways = WAYS; /* fewer where the machine has no AVX2 */
+static uint64_t seed;
+
+static uint64_t random64(void)
+{
+    uint64_t z = seed += 0x9e3779b97f4a7c15u;
+    z = (z ^ (z >> 30)) * 0xbf58476d1ce4e5b9u;
+    z = (z ^ (z >> 27)) * 0x94d049bb133111ebu;
+    return z ^ (z >> 31);
+}
+
+static double microseconds(void)
+{
+    struct timespec t;
+    clock_gettime(CLOCK_MONOTONIC, &t);
+    return (double)t.tv_sec * 1e6 + (double)t.tv_nsec * 1e-3;
+}
+
+static void fail(const char *what, const char *name)
+{
+    fprintf(stderr, "bench: %s: %s\n", name, what);
+    exit(1);
+}
+
+/* What is read off a book's bytes; L may be cut down. */
+static void describe(Book *b, unsigned duals)
+{
+    size_t degree;
+    b->duals = duals;
+    b->len = 70 + 64 * (size_t)duals;
+    b->n = ((size_t)1 << b->bytes[1]) - 1;
+    b->q = 1u << b->bytes[2];
+    for (degree = b->n - 1; b->bytes[4 + degree] == 0; degree--)
+        ;
+    b->k = b->n - degree;
+    b->weight = 0;
+    for (size_t j = 0; j < b->n; j++)
+        b->weight += b->bytes[71 + j] != 0;
+    for (int w = 0; w < ways; w++)
+        if (checks[w](b->bytes, b->len) != 256 * duals)
+            fail("not accepted", b->name);
+}
+
+static void load(Book *b, const char *folder, const char *name)
+{
+    char path[512];
+    FILE *f;
+    snprintf(path, sizeof path, "%s/%s.book", folder, name);
+    snprintf(b->name, sizeof b->name, "%s", name);
+    f = fopen(path, "rb");
+    if (!f)
+        fail("no such book", path);
+    b->len = fread(b->bytes, 1, LONGEST_BOOK, f);
+    fclose(f);
+    describe(b, (unsigned)((b->len - 70) / 64));
+}
+
+/* A code word with errors in up to so many places. */
+static void make_word(const Book *b, int errors, uint8_t *word)
+{
+    uint8_t message[63];
+    for (size_t j = 0; j < b->k; j++)
+        message[j] = (uint8_t)(random64() % b->q);
+    if (shiftsum_code(b->bytes, b->len, message, b->k, word, b->n) != 0)
+        fail("no code word", b->name);
+    for (int e = 0; e < errors; e++)
+        word[random64() % b->n] ^= (uint8_t)(random64() % b->q);
+}
+
+/* Result and answer of every way, the transcription's only where it is asked for. */
+static uint32_t agreed(const Book *b, const uint8_t *word, int with_literal)
+{
+    uint8_t first[63], other[63];
+    memset(first, 0xee, sizeof first); /* a refused call writes nothing */
+    uint32_t result = gcc_decode(b->bytes, b->len, word, b->n, first, b->n);
+    for (int w = 0; w < ways; w++) {
+        if (w == LITERAL && !with_literal)
+            continue;
+        memset(other, 0xee, sizeof other);
+        if (decodes[w](b->bytes, b->len, word, b->n, other, b->n) != result || memcmp(first, other, b->n) != 0)
+            fail("answers differ", b->name);
+    }
+    return result;
+}
+
+/* Words of a class: of most rounds, the most that are found in so many trials. */
+static void find(const Book *b, int class, int trials, Class *c)
+{
+    uint8_t word[63], answer[63];
+    c->count = 0;
+    c->rounds = class == CLEAN ? 0 : 1;
+    for (int i = 0; i < trials && (class == MOST_ROUNDS || c->count < WORDS); i++) {
+        make_word(b, class == CLEAN ? 0 : 1 + (int)(random64() % (1 + (class == ONE_ROUND ? 2 : b->n / 2))), word);
+        uint32_t r = gcc_decode(b->bytes, b->len, word, b->n, answer, b->n);
+        int rounds = (int)SHIFTSUM_ROUNDS(r);
+        if (class == ONE_ROUND && (SHIFTSUM_KIND(r) != SHIFTSUM_MENDED || rounds != 1))
+            continue;
+        if (rounds < c->rounds || (rounds == c->rounds && c->count == WORDS) || (class == MOST_ROUNDS && rounds == 0))
+            continue;
+        if (rounds > c->rounds)
+            c->count = 0;
+        c->rounds = rounds;
+        c->kind = SHIFTSUM_KIND(r);
+        memcpy(c->word[c->count++], word, 63);
+    }
+    for (int i = 0; i < c->count; i++)
+        agreed(b, c->word[i], i == 0);
+}
+
+/* One run of `times` calls; the words in turn. No word: the check. */
+static double run(const Book *b, const Class *c, int way, long times)
+{
+    uint8_t answer[63];
+    double start = microseconds();
+    for (long i = 0; i < times; i++)
+        if (c)
+            decodes[way](b->bytes, b->len, c->word[i % c->count], b->n, answer, b->n);
+        else
+            checks[way](b->bytes, b->len);
+    return (microseconds() - start) / (double)times;
+}
+
+/*
+ * The least time of a call in microseconds, for every way, in turns. A run has every word as often; a slow transcription has three runs of one word
+ * at most, so that its ratios are rough.
+ */
+static void measure(const Book *b, const Class *c, double budget, double *least)
+{
+    long times[WAYS];
+    int words = c ? c->count : 1, slow;
+    double start = microseconds();
+    for (int w = 0; w < ways; w++) {
+        double t = run(b, c, w, 1);
+        times[w] = t < 40 ? ((long)(40 / t) / words + 1) * words : words;
+        least[w] = t;
+    }
+    slow = least[LITERAL] > 4000;
+    for (int i = 0; i < 2 && slow && least[LITERAL] < 5e5; i++) {
+        double t = run(b, c, LITERAL, 1);
+        least[LITERAL] = t < least[LITERAL] ? t : least[LITERAL];
+    }
+    for (int w = 0; w < ways; w++)
+        least[w] = w == LITERAL && slow ? least[w] : 1e18;
+    for (int turn = 0; turn < LEAST_TURNS || microseconds() - start < budget; turn++)
+        for (int w = 0; w < ways; w++) {
+            double t = w == LITERAL && slow ? least[w] : run(b, c, w, times[w]);
+            least[w] = t < least[w] ? t : least[w];
+        }
+}
+
+static FILE *text, *markdown, *csv, *growth;
+
+static void heading(const char *title, const char *first, const char *second)
+{
+    fprintf(text, "\n%s\n%-10s %-18s %10s %9s %9s %9s %9s\n", title, first, second, "ours, us", "/literal", "/gcc", "/clang", "/AVX2");
+    fprintf(markdown, "\n%s\n\n| %s | %s | ours, us | ours / literal | ours / best C, gcc | ours / best C, clang | ours / best C, AVX2 |\n"
+            "|---|---|---:|---:|---:|---:|---:|\n", title, first, second);
+}
+
+static void row(const char *first, const char *second, const double *t)
+{
+    double avx2 = ways < WAYS ? 0 : t[GCC_AVX2] < t[CLANG_AVX2] ? t[GCC_AVX2] : t[CLANG_AVX2];
+    double ratio[4] = {t[OURS] / t[LITERAL], t[OURS] / t[GCC], t[OURS] / t[CLANG], avx2 > 0 ? t[OURS] / avx2 : 0};
+    fprintf(text, "%-10s %-18s %10.2f %9.4f %9.1f %9.1f %9.1f\n", first, second, t[OURS], ratio[0], ratio[1], ratio[2], ratio[3]);
+    fprintf(markdown, "| %s | %s | %.2f | %.4f | %.1f | %.1f | %.1f |\n", first, second, t[OURS], ratio[0], ratio[1], ratio[2], ratio[3]);
+    fprintf(csv, "%s,%s", first, second);
+    for (int w = 0; w < WAYS; w++)
+        fprintf(csv, ",%.4f", w < ways ? t[w] : 0);
+    fprintf(csv, ",%.4f,%.2f,%.2f,%.2f\n", ratio[0], ratio[1], ratio[2], ratio[3]);
+    fflush(text);
+}
+
+static void random_words_agree(const Book *b)
+{
+    uint8_t word[63];
+    for (int i = 0; i < 200; i++) {
+        make_word(b, i % 16, word);
+        if (i % 40 == 39)
+            word[random64() % b->n] = (uint8_t)random64(); /* refused, mostly */
+        agreed(b, word, b->n < 63);
+    }
+}
+
+/* One byte changed: the same refusal, or none. */
+static void damaged_books_agree(const Book *b)
+{
+    for (int i = 0; i < 300; i++) {
+        Book damaged = *b;
+        damaged.bytes[random64() % b->len] ^= (uint8_t)(i % 3 ? 1u << random64() % 8 : random64());
+        damaged.len -= i % 50 == 49;
+        for (int w = 0; w < ways; w++)
+            if (checks[w](damaged.bytes, damaged.len) != checks[LITERAL](damaged.bytes, damaged.len))
+                fail("checks differ", b->name);
+    }
+}
+
+enum { BOOKS = 5 };
+static const char *const books[BOOKS] = {"a", "n15p4", "n63p1", "n63p2", "n63p6"};
+
+static void whole_decodes(const char *folder)
+{
+    double decoded[CLASSES][WAYS], checked[BOOKS][WAYS], rounds[BOOKS][WAYS];
+    char label[32];
+    int per[BOOKS];
+    heading("Whole decodes over the C boundary, the book checked in each call", "book", "words");
+    for (int i = 0; i < BOOKS; i++) {
+        Book b;
+        load(&b, folder, books[i]);
+        random_words_agree(&b);
+        damaged_books_agree(&b);
+        for (int class = CLEAN; class < CLASSES; class++) {
+            Class c;
+            find(&b, class, 4000, &c);
+            snprintf(label, sizeof label, "%d rounds (%c)", c.rounds, c.kind);
+            measure(&b, &c, 6e5, decoded[class]);
+            row(books[i], class == MOST_ROUNDS ? label : class_names[class], decoded[class]);
+            per[i] = c.rounds;
+        }
+        measure(&b, NULL, 4e5, checked[i]);
+        for (int w = 0; w < WAYS; w++)
+            rounds[i][w] = (decoded[MOST_ROUNDS][w] - decoded[CLEAN][w]) / per[i];
+    }
+    heading("One round: the difference of the words of most rounds and the clean ones, a round", "book", "rounds");
+    for (int i = 0; i < BOOKS; i++) {
+        snprintf(label, sizeof label, "%d", per[i]);
+        row(books[i], label, rounds[i]);
+    }
+    heading("The check of a book", "book", "");
+    for (int i = 0; i < BOOKS; i++)
+        row(books[i], "check", checked[i]);
+}
+
+/* A round's time for each way, and divided by L * weight * n, which should hardly change. */
+static void growth_row(const char *by, const Book *b, unsigned rounds, const double *t)
+{
+    double size = (double)b->duals * b->weight * (double)b->n;
+    fprintf(text, "%-7s %-10s %3u %4u %4zu %4u %11.3f %11.4f %11.4f\n", by, b->name, b->duals, b->weight, b->n, rounds, t[OURS],
+            1e3 * t[OURS] / size, 1e3 * t[GCC] / size);
+    fprintf(markdown, "| %s | %s | %u | %u | %zu | %u | %.3f | %.4f | %.4f |\n", by, b->name, b->duals, b->weight, b->n, rounds, t[OURS],
+            1e3 * t[OURS] / size, 1e3 * t[GCC] / size);
+    fprintf(growth, "%s,%s,%u,%u,%zu,%u,%.0f,%.5f,%.5f,%.5f\n", by, b->name, b->duals, b->weight, b->n, rounds, size, t[OURS], t[GCC], t[LITERAL]);
+    fflush(text);
+}
+
+/* Time a round on words of most rounds, less a clean word's. */
+static void grow(const char *by, Book *b, int most)
+{
+    Class clean, long_run;
+    double base[WAYS], t[WAYS];
+    b->bytes[68] = (uint8_t)most;
+    find(b, CLEAN, WORDS, &clean);
+    find(b, MOST_ROUNDS, 600, &long_run);
+    long_run.count = 1; /* the transcription is slow */
+    measure(b, &clean, 1.5e5, base);
+    measure(b, &long_run, 2.5e5, t);
+    for (int w = 0; w < ways; w++)
+        t[w] = (t[w] - base[w]) / long_run.rounds;
+    growth_row(by, b, (unsigned)long_run.rounds, t);
+}
+
+static void growths(const char *folder)
+{
+    static const char *const heavier[] = {"n63p2", "n63p2w20", "n63p2w28", "n63p2w44"}, *const longer[] = {"n15p1", "n31p1", "n63p1"};
+    Book b;
+    const char *title = "Growth: a round's time, and the same divided by L * weight * n";
+    fprintf(text, "\n%s\n%-7s %-10s %3s %4s %4s %4s %11s %11s %11s\n", title, "by", "book", "L", "wt", "n", "rnds", "ours, us", "ours, ns/", "gcc, ns/");
+    fprintf(markdown, "\n%s\n\n| by | book | L | weight | n | rounds | ours, us a round | ours, ns / (L weight n) | best C gcc, ns / (L weight n) |\n"
+            "|---|---|---:|---:|---:|---:|---:|---:|---:|\n", title);
+    for (unsigned l = 1; l <= 32; l *= 2) {
+        load(&b, folder, "n63p2");
+        describe(&b, l);
+        grow("L", &b, 4);
+    }
+    for (int i = 0; i < 4; i++) {
+        load(&b, folder, heavier[i]);
+        grow("weight", &b, 4);
+    }
+    for (int i = 0; i < 3; i++) {
+        load(&b, folder, longer[i]);
+        describe(&b, 8);
+        grow("n", &b, 4);
+    }
+    for (int i = 1; i <= 32; i *= 2) {
+        load(&b, folder, "n63p2");
+        describe(&b, 8);
+        grow("rounds", &b, i);
+    }
+}
+
+/* The least time of one part: of many runs of 40, less that of runs of none. */
+static double part_time(void *room, enum FastPart part, const Book *b, const uint8_t *word)
+{
+    double least[2] = {1e9, 1e9};
+    for (int turn = 0; turn < 800; turn++)
+        for (int i = 0; i < 2; i++) {
+            double start = microseconds();
+            gcc_part(room, part, b->bytes, b->len, word, 40 * i);
+            double t = microseconds() - start;
+            least[i] = t < least[i] ? t : least[i];
+        }
+    return (least[1] - least[0]) / 40;
+}
+
+/* What the best C spends where, in microseconds. */
+static void split(const char *folder)
+{
+    static const char *const names[FAST_PARTS] = {"check", "lists", "test", "products", "matrix", "update"};
+    const char *title = "The best C (gcc) by parts, us: check of the book, lists of terms, code word test; a round's products, matrix with its products, update";
+    void *room = malloc(gcc_room());
+    fprintf(text, "\n%s\n%-10s", title, "book");
+    fprintf(markdown, "\n%s\n\n| book |", title);
+    for (int i = 0; i < FAST_PARTS; i++) {
+        fprintf(text, " %9s", names[i]);
+        fprintf(markdown, " %s |", names[i]);
+    }
+    fprintf(markdown, "\n|---|---:|---:|---:|---:|---:|---:|");
+    for (int i = 0; i < BOOKS; i++) {
+        Book b;
+        Class c;
+        load(&b, folder, books[i]);
+        find(&b, MOST_ROUNDS, 100, &c);
+        fprintf(text, "\n%-10s", books[i]);
+        fprintf(markdown, "\n| %s |", books[i]);
+        for (enum FastPart part = FAST_CHECK; part < FAST_PARTS; part++) {
+            double t = part_time(room, part, &b, c.word[0]);
+            fprintf(text, " %9.3f", t);
+            fprintf(markdown, " %.3f |", t);
+        }
+    }
+    fprintf(text, "\n");
+    fprintf(markdown, "\n");
+    free(room);
+}
+
+static FILE *create(const char *folder, const char *name)
+{
+    char path[512];
+    FILE *f;
+    snprintf(path, sizeof path, "%s/%s", folder, name);
+    f = fopen(path, "w");
+    if (!f)
+        fail("cannot be written", path);
+    return f;
+}
+
+/* The book's length, the book, and words of a class. */
+static int words(const char *folder, const char *name, int class, long count)
+{
+    Book b;
+    Class c;
+    load(&b, folder, name);
+    find(&b, class, 4000, &c);
+    putchar((int)(b.len & 255));
+    putchar((int)(b.len >> 8));
+    fwrite(b.bytes, 1, b.len, stdout);
+    for (long i = 0; i < count; i++)
+        fwrite(c.word[i % c.count], 1, b.n, stdout);
+    return 0;
+}
+
+int main(int count, char **given)
+{
+    __builtin_cpu_init();
+    ways = __builtin_cpu_supports("avx2") ? WAYS : GCC_AVX2;
+    if (count == 6 && strcmp(given[1], "words") == 0)
+        return words(given[2], given[3], strcmp(given[4], "clean") == 0 ? CLEAN : ONE_ROUND, atol(given[5]));
+    if (count != 3)
+        fail("BOOKS OUT, or words BOOKS BOOK CLASS COUNT", "use");
+    text = create(given[2], "table.txt");
+    markdown = create(given[2], "table.md");
+    csv = create(given[2], "table.csv");
+    growth = create(given[2], "growth.csv");
+    fprintf(csv, "book,words,ours us,literal us,gcc us,clang us,gcc avx2 us,clang avx2 us,ours/literal,ours/gcc,ours/clang,ours/avx2\n");
+    fprintf(growth, "by,book,L,weight,n,rounds,L*weight*n,ours us,gcc us,literal us\n");
+    whole_decodes(given[1]);
+    split(given[1]);
+    growths(given[1]);
+    return 0;
+}

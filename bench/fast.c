@@ -1,0 +1,1084 @@
+/*
+ * The best portable C for document 01's answers. Vectors are the compilers' own (vector_size), so that one source serves every target of little end; no intrinsic.
+ *
+ * The book is checked in each call, as the C boundary does. What makes it fast:
+ *   - a word's multiples by every symbol stand in rows, each row twice in a run, so that a product with a dual word is a sum of rows at offsets;
+ *   - for p 1 and 2 a digit of all symbols is one number, and a tree of full adders counts all columns at once;
+ *   - for p 3 to 5, the marks "a dual word's product is exp e at m" stand in rows, in the order of e and twice, so that dividing by the symbol at h
+ *     and turning by h are one offset, and counting is a sum of rows of bytes;
+ *   - for p 6 the counts are scattered instead, dividing again being an offset of rows in the order of logarithms;
+ *   - "g divides" is asked of k or n - k places of one product, not by division;
+ *   - dual words of p at most 3 are checked several to a byte.
+ */
+#include "fast.h"
+
+#include "literal.h"
+
+#include <string.h>
+
+#ifdef __AVX2__
+#define VB 32
+#else
+#define VB 16
+#endif
+typedef uint8_t Vec __attribute__((vector_size(VB)));
+typedef uint8_t Loose __attribute__((vector_size(VB), aligned(1), may_alias));
+typedef int16_t Wide __attribute__((vector_size(VB), may_alias));
+typedef uint64_t Quad __attribute__((vector_size(VB), may_alias));
+
+#define INLINE static inline __attribute__((always_inline))
+#define ALIGNED __attribute__((aligned(64)))
+
+enum { WORD = 64 / VB, ROW = 128, AT_G = 4, AT_DUALS = 70, SCATTER_ROWS = 192, MARKS = 32256, PLANES = 12, STREAM = 2048 };
+
+static const uint8_t polynomials[7] = {0, 3, 7, 11, 19, 37, 91};
+
+/* A term of a dual word: its offset into the word's multiples, and into the marks of its batch. */
+typedef struct {
+    uint16_t sum_at, count_at;
+} Term;
+
+typedef struct {
+    int p, q, n, k, d, duals, weight, rounds, places, vecs, terms, width, batch;
+    const uint8_t *book;
+    uint16_t test_at[64];          /* the terms of h = (x^n - 1) / g, as offsets into the word's multiples */
+    Term lists[32 * 64];           /* the dual words' terms, one after the other */
+    uint8_t exps[64];
+    uint16_t rows[64];             /* where the scattered rows start, by symbol */
+    uint8_t multiples[64 * ROW] ALIGNED; /* row c: c times the word, twice */
+    uint8_t marks[MARKS] ALIGNED;
+    int16_t counts[64 * 64] ALIGNED; /* row e: the entries of symbol exp e */
+    uint16_t scatter[SCATTER_ROWS * 64] ALIGNED;
+    uint8_t h[64]; /* (x^n - 1) / g */
+    uint64_t turns[64 * 4], stream[2][STREAM] ALIGNED; /* for p 1 and 2 */
+} Fast;
+
+INLINE Vec get(const void *at)
+{
+    return *(const Loose *)at;
+}
+
+INLINE void put(void *at, Vec x)
+{
+    *(Loose *)at = x;
+}
+
+INLINE Vec all(uint8_t x)
+{
+    return (Vec){0} + x;
+}
+
+INLINE uint64_t load64(const uint8_t *at)
+{
+    uint64_t x;
+    memcpy(&x, at, 8);
+    return x;
+}
+
+INLINE int any(Vec x)
+{
+    Quad y = (Quad)x;
+    uint64_t z = y[0] | y[1];
+#if VB == 32
+    z |= y[2] | y[3];
+#endif
+    return z != 0;
+}
+
+/* The sum of the bytes, below 256. */
+INLINE unsigned byte_sum(Vec x)
+{
+    Quad y = (Quad)x;
+    uint64_t z = y[0] + y[1];
+#if VB == 32
+    z += y[2] + y[3];
+#endif
+    return (unsigned)(z * 0x0101010101010101u >> 56);
+}
+
+INLINE unsigned wide_sum(Wide x)
+{
+    Quad y = (Quad)x;
+    uint64_t z = y[0] + y[1];
+#if VB == 32
+    z += y[2] + y[3];
+#endif
+    return (unsigned)(z * 0x0001000100010001u >> 48);
+}
+
+/* Bytes below q, times x. */
+INLINE Vec times_x(Vec a, int q, int polynomial)
+{
+    Vec up = a + a;
+    Vec over = (Vec)((up & all((uint8_t)q)) != (Vec){0});
+    return up ^ (over & all((uint8_t)polynomial));
+}
+
+/* Rows 2 to q - 1 from row 1, `vecs` vectors wide. */
+INLINE void multiply(uint8_t *rows, int q, int polynomial, int vecs)
+{
+    for (int c = 2; c < q; c++) {
+        int low = c & -c;
+        uint8_t *to = rows + c * ROW;
+        const uint8_t *from = rows + (low == c ? c / 2 : c - low) * ROW, *other = rows + low * ROW;
+        if (low == c)
+            for (int v = 0; v < vecs; v++)
+                put(to + v * VB, times_x(get(from + v * VB), q, polynomial));
+        else
+            for (int v = 0; v < vecs; v++)
+                put(to + v * VB, get(from + v * VB) ^ get(other + v * VB));
+    }
+}
+
+/* Digit k of 64 symbols, as the bits of a number. */
+INLINE uint64_t plane(const uint8_t *word, int k)
+{
+    uint64_t bits = 0;
+    for (int i = 0; i < 8; i++) {
+        uint64_t x = load64(word + 8 * i) >> k & 0x0101010101010101u;
+        bits |= (x * 0x0102040810204080u >> 56) << (8 * i);
+    }
+    return bits;
+}
+
+/* h = (x^n - 1) / g by a shift register of p numbers whose top bits are the next coefficient of h. Says whether nothing is left. */
+INLINE int quotient_by(const int p, const uint8_t *g, int d, int k, uint8_t *h)
+{
+    uint64_t rows[64][6], state[6] = {0}, left = 0;
+    const int table = p > 3;
+    for (int i = 0; i < p; i++)
+        rows[0][i] = 0;
+    for (int i = 0; i < p; i++)
+        rows[1][i] = plane(g, i) << (64 - d);
+    for (int c = 2; c < 1 << p; c++) {
+        int low = c & -c;
+        if (low != c && !table)
+            continue;
+        for (int i = 0; i < p; i++)
+            rows[c][i] = low != c ? rows[c - low][i] ^ rows[low][i]
+                                  : (i ? rows[c / 2][i - 1] : 0) ^ (polynomials[p] >> i & 1 ? rows[c / 2][p - 1] : 0);
+    }
+    state[0] = (uint64_t)1 << 63;
+    for (int i = k; i >= 0; i--) {
+        uint64_t c = 0, add[6] = {0};
+        for (int a = 0; a < p; a++) {
+            c |= (state[a] >> 63) << a;
+            for (int b = 0; b < p && !table; b++)
+                add[b] ^= rows[1 << a][b] & (uint64_t)((int64_t)state[a] >> 63);
+        }
+        h[i] = (uint8_t)c;
+        for (int a = 0; a < p; a++)
+            state[a] = state[a] << 1 ^ (table ? rows[c][a] : add[a]);
+    }
+    state[0] ^= (uint64_t)1 << (64 - d);
+    for (int a = 0; a < p; a++)
+        left |= state[a];
+    return left == 0;
+}
+
+static int quotient(const Fast *f, const uint8_t *g, uint8_t *h)
+{
+    switch (f->p) {
+    case 1: return quotient_by(1, g, f->d, f->k, h);
+    case 2: return quotient_by(2, g, f->d, f->k, h);
+    case 3: return quotient_by(3, g, f->d, f->k, h);
+    case 4: return quotient_by(4, g, f->d, f->k, h);
+    case 5: return quotient_by(5, g, f->d, f->k, h);
+    default: return quotient_by(6, g, f->d, f->k, h);
+    }
+}
+
+/* The sum of rows at offsets, of `vecs` vectors. */
+INLINE void sum_rows(const uint8_t *rows, const uint16_t *at, int count, const int vecs, Vec *sum)
+{
+    Vec s[WORD] = {0};
+    for (int i = 0; i < count; i++)
+        for (int v = 0; v < vecs; v++)
+            s[v] ^= get(rows + at[i] + v * VB);
+    for (int v = 0; v < vecs; v++)
+        sum[v] = s[v];
+}
+
+/* Whether the first `places` bytes are zero. */
+INLINE int zero_below(const Vec *x, int places, const int vecs)
+{
+    static const uint8_t ends[2 * VB] = {[0 ... VB - 1] = 255};
+    Vec left = {0};
+    for (int v = 0; v + 1 < vecs; v++)
+        left |= x[v];
+    left |= x[vecs - 1] & get(ends + vecs * VB - places);
+    return !any(left);
+}
+
+/* Twice a vector of packed symbols, p 2 or 3; both polynomials end in x + 1. */
+INLINE Vec packed_times_x(Vec a, const int p)
+{
+    const uint8_t ones = p == 2 ? 0x55 : 0x09;
+    Vec top = (Vec)((Quad)a >> (p - 1)) & all(ones), rest = a & all((uint8_t)~(ones << (p - 1)));
+    return (rest + rest) ^ top ^ (top + top);
+}
+
+/* Rows of the multiples of the dual words from l on, several to a byte. */
+INLINE void pack_rows(const Fast *f, int l, const int p, uint8_t *rows)
+{
+    const int most = 8 / p;
+    int words = f->duals - l < most ? f->duals - l : most;
+    for (int v = 0; v < WORD; v++) {
+        Vec x = {0}, keep = ~(Vec){v == 0 ? 255 : 0}; /* all but the kind byte */
+        for (int i = 0; i < words; i++)
+            x |= (Vec)((Quad)(get(f->book + AT_DUALS + 64 * (l + i) + v * VB) & keep) << (p * i));
+        put(rows + ROW + v * VB, x);
+        if (p > 1) {
+            Vec x2 = packed_times_x(x, p);
+            put(rows + 2 * ROW + v * VB, x2);
+            put(rows + 3 * ROW + v * VB, x ^ x2);
+            if (p > 2) {
+                Vec x4 = packed_times_x(x2, p);
+                put(rows + 4 * ROW + v * VB, x4);
+                put(rows + 5 * ROW + v * VB, x ^ x4);
+                put(rows + 6 * ROW + v * VB, x2 ^ x4);
+                put(rows + 7 * ROW + v * VB, x ^ x2 ^ x4);
+            }
+        }
+    }
+}
+
+/* Products with g of dual words packed several to a byte, p at most 3: the places from d to n - 1, which decide. */
+INLINE int packed_products(const Fast *f, const uint8_t *g, const int p, const int vecs)
+{
+    uint8_t rows[2][(1 << p) * ROW] ALIGNED;
+    uint16_t at[64];
+    int count = 0, turn = 0;
+    Vec left[WORD] = {{0}};
+    memset(rows, 0, sizeof rows);
+    for (int t = 0; t <= f->d; t++) {
+        at[count] = (uint16_t)(g[t] * ROW + f->d - t + 1);
+        count += g[t] != 0;
+    }
+    for (int l = 0; l < f->duals; l += 8 / p, turn ^= 1) {
+        Vec sum[WORD];
+        pack_rows(f, l, p, rows[turn]);
+        sum_rows(rows[turn], at, count, vecs, sum);
+        for (int v = 0; v < vecs; v++)
+            left[v] |= sum[v];
+    }
+    return zero_below(left, f->k, vecs);
+}
+
+/* The same one dual word at a time, by the multiples of g. */
+INLINE int plain_products(const Fast *f, const uint8_t *g, const int vecs)
+{
+    uint8_t rows[64 * ROW] ALIGNED;
+    int n = f->n;
+    Vec left[WORD] = {{0}};
+    memset(rows, 0, 2 * ROW);
+    memcpy(rows + ROW + n - 1 - f->d, g, (size_t)f->d + 1);
+    multiply(rows, f->q, polynomials[f->p], 2 * f->vecs);
+    for (int l = 0; l < f->duals; l++) {
+        const uint8_t *b = f->book + AT_DUALS + 1 + 64 * l;
+        Vec sum[WORD] = {{0}};
+        for (int u = 0; u < n; u++)
+            for (int v = 0; v < vecs; v++)
+                sum[v] ^= get(rows + n - 1 - u + b[u] * ROW + v * VB);
+        for (int v = 0; v < vecs; v++)
+            left[v] |= sum[v];
+    }
+    return zero_below(left, f->k, vecs);
+}
+
+/* Asked only where two words have one hash. */
+static int two_equal(const Fast *f)
+{
+    for (int l = 0; l < f->duals; l++)
+        for (int k = 0; k < l; k++)
+            if (memcmp(f->book + AT_DUALS + 64 * l, f->book + AT_DUALS + 64 * k, 64) == 0)
+                return 1;
+    return 0;
+}
+
+/* Kind bytes, symbols, place 0 and weights of the dual words, and that no two have one hash. */
+static int dual_words_fit(Fast *f)
+{
+    uint8_t want[64] ALIGNED = {4, 1}, care[64] ALIGNED;
+    uint32_t hash[64];
+    Vec bad = {0};
+    unsigned unlike = 0, same = 0;
+    care[0] = 255;
+    care[1] = 255;
+    for (int j = 1; j < 63; j++)
+        care[j + 1] = j < f->n ? (uint8_t)~(f->q - 1) : 255;
+    for (int l = 0; l < f->duals; l++) {
+        const uint8_t *record = f->book + AT_DUALS + 64 * l;
+        Vec nonzero = {0};
+        uint64_t mixed = 0;
+        for (int v = 0; v < WORD; v++) {
+            Vec x = get(record + v * VB);
+            bad |= (x ^ get(want + v * VB)) & get(care + v * VB);
+            nonzero -= (Vec)(x != (Vec){0});
+        }
+        for (int i = 0; i < 8; i++)
+            mixed += load64(record + 8 * i) * (0x9e3779b97f4a7c15u + 0x7f4a7c159e3779bau * (unsigned)i);
+        hash[l] = hash[l + 32] = (uint32_t)(mixed >> 32);
+        unsigned weight = byte_sum(nonzero) - 1;
+        f->weight = l ? f->weight : (int)weight;
+        unlike |= weight ^ (unsigned)f->weight;
+    }
+    for (int l = f->duals; l < 32; l++)
+        hash[l] = hash[l + 32] = (uint32_t)l;
+    for (int s = 1; s <= 16; s++)
+        for (int l = 0; l < 32; l++)
+            same |= hash[l] == hash[l + s];
+    return !any(bad) && !unlike && !(same && two_equal(f));
+}
+
+INLINE int products_fit_in(const Fast *f, const uint8_t *g, const int vecs)
+{
+    switch (f->p) {
+    case 1: return packed_products(f, g, 1, vecs);
+    case 2: return packed_products(f, g, 2, vecs);
+    case 3: return packed_products(f, g, 3, vecs);
+    default: return plain_products(f, g, vecs);
+    }
+}
+
+static int products_fit(const Fast *f, const uint8_t *g)
+{
+    switch ((f->k + VB - 1) / VB) {
+    case 1: return products_fit_in(f, g, 1);
+#if VB == 16
+    case 2: return products_fit_in(f, g, 2);
+    case 3: return products_fit_in(f, g, 3);
+#endif
+    default: return products_fit_in(f, g, WORD);
+    }
+}
+
+/* Conditions 1 to 6 without the kinds of the dual words; leaves h. */
+static int head_fits(Fast *f, const uint8_t *book, size_t len, uint8_t *g, uint8_t *h)
+{
+    int s, bad = 0;
+    if (len < 134 || len > 2118 || (len - 70) % 64 != 0 || book[0] != 1 || book[3] != 2 || book[67] != 3)
+        return 0;
+    s = book[1];
+    f->p = book[2];
+    if (s < 2 || s > 6 || f->p < 1 || f->p > s || s % f->p != 0)
+        return 0;
+    f->book = book;
+    f->duals = (int)(len - 70) / 64;
+    f->q = 1 << f->p;
+    f->n = (1 << s) - 1;
+    f->rounds = book[68];
+    f->places = book[69];
+    f->vecs = (f->n + VB - 1) / VB;
+    memcpy(g, book + AT_G, 63);
+    g[63] = 0;
+    for (int j = 0; j < 64; j++)
+        bad |= j < f->n ? g[j] & ~(f->q - 1) : g[j];
+    f->d = f->n - 1;
+    while (f->d > 0 && g[f->d] == 0)
+        f->d--;
+    f->k = f->n - f->d;
+    if (bad || f->d < 1 || g[f->d] != 1 || f->rounds < 1 || f->rounds > 63 || f->places < 1 || f->places > f->n)
+        return 0;
+    return quotient(f, g, h);
+}
+
+/* Whether the book is accepted at once. Where not, the transcription finds the number. */
+static int accept(Fast *f, const uint8_t *book, size_t len)
+{
+    uint8_t g[64], *h = f->h;
+    if (!head_fits(f, book, len, g, h) || !dual_words_fit(f) || !products_fit(f, g))
+        return 0;
+    f->terms = 0;
+    for (int t = 0; t <= f->k; t++) {
+        f->test_at[f->terms] = (uint16_t)(h[t] * ROW + f->k - t);
+        f->terms += h[t] != 0;
+    }
+    return 1;
+}
+
+/* Scattering is one step for each place and term; marks are a vector, or four, for each row and term, which is less up to q 32. */
+static int scatters(const Fast *f)
+{
+    return f->q == 64;
+}
+
+/* The nonzero places of a dual word, as the bits of a number. */
+INLINE uint64_t support(const uint8_t *record)
+{
+    uint64_t bits = 0;
+    for (int i = 0; i < 8; i++) {
+        uint64_t x = (load64(record + 8 * i) + 0x7f7f7f7f7f7f7f7fu) >> 7 & 0x0101010101010101u;
+        bits |= (x * 0x0102040810204080u >> 56) << (8 * i);
+    }
+    return bits >> 1; /* the kind byte falls out */
+}
+
+/* The lists that counting reads, made only for a word that is not clean. */
+static void prepare(Fast *f)
+{
+    int n = f->n, x = 1;
+    uint32_t both[64];
+    f->width = 2 * f->vecs * VB;
+    f->batch = 255 / f->weight;
+    if (f->batch > MARKS / (2 * (f->q - 1) * f->width))
+        f->batch = MARKS / (2 * (f->q - 1) * f->width);
+    for (int e = 0; e < f->q - 1; e++) {
+        f->exps[e] = (uint8_t)x;
+        both[x] = (uint32_t)(x * ROW + n) | (uint32_t)(e * (scatters(f) ? 64 : f->width)) << 16;
+        x <<= 1;
+        x ^= x & f->q ? polynomials[f->p] : 0;
+    }
+    Term *to = f->lists;
+    for (int l = 0, at = 0; l < f->duals; l++, at++) {
+        const uint8_t *b = f->book + AT_DUALS + 1 + 64 * l;
+        at = at < f->batch ? at : 0;
+        uint32_t base = scatters(f) ? 0 : (uint32_t)(at * 2 * (f->q - 1) * f->width) << 16;
+        for (uint64_t left = support(b - 1); left; left &= left - 1) {
+            uint32_t u = (uint32_t)__builtin_ctzll(left), t = both[b[u]] + base + u * 0xffffu;
+            memcpy(to++, &t, 4);
+        }
+    }
+}
+
+/* The word's multiples. */
+static void load_word(Fast *f, const uint8_t *word)
+{
+    uint8_t *row = f->multiples + ROW;
+    for (int v = 0; v < 2 * f->vecs; v++)
+        put(f->multiples + v * VB, (Vec){0});
+    for (int v = 0; v < f->vecs; v++)
+        put(row + v * VB, get(word + v * VB));
+    for (int v = 0; v < f->vecs; v++)
+        put(row + f->n + v * VB, get(word + v * VB));
+    switch (f->vecs) {
+    case 1: multiply(f->multiples, f->q, polynomials[f->p], 2); break;
+    case 2: multiply(f->multiples, f->q, polynomials[f->p], 4); break;
+    default: multiply(f->multiples, f->q, polynomials[f->p], 8); break;
+    }
+}
+
+static int is_code_word(const Fast *f)
+{
+    Vec sum[WORD];
+    switch ((f->d + VB - 1) / VB) {
+    case 1: sum_rows(f->multiples, f->test_at, f->terms, 1, sum); return zero_below(sum, f->d, 1);
+#if VB == 16
+    case 2: sum_rows(f->multiples, f->test_at, f->terms, 2, sum); return zero_below(sum, f->d, 2);
+    case 3: sum_rows(f->multiples, f->test_at, f->terms, 3, sum); return zero_below(sum, f->d, 3);
+#endif
+    default: sum_rows(f->multiples, f->test_at, f->terms, WORD, sum); return zero_below(sum, f->d, WORD);
+    }
+}
+
+/* The product of a dual word and the word. */
+INLINE void sum_terms(const Fast *f, const Term *terms, const int vecs, Vec *sum)
+{
+    Vec s[WORD] = {0};
+    for (int i = 0; i < f->weight; i++)
+        for (int v = 0; v < vecs; v++)
+            s[v] ^= get(f->multiples + terms[i].sum_at + v * VB);
+    for (int v = 0; v < vecs; v++)
+        sum[v] = s[v];
+}
+
+/* Marks of one dual word's product: row e, and row e + q - 1, tell where it is exp e. */
+INLINE void mark(const Fast *f, uint8_t *row, const Vec *w, const int vecs)
+{
+    const int width = 2 * vecs * VB;
+    int n = f->n, around = (f->q - 1) * width;
+    for (int e = 0; e < f->q - 1; e++, row += width) {
+        Vec is[WORD], symbol = all(f->exps[e]);
+        for (int v = 0; v < vecs; v++) {
+            is[v] = (Vec)(w[v] == symbol);
+            put(row + v * VB, is[v]);
+            put(row + around + v * VB, is[v]);
+        }
+        for (int v = 0; v < vecs; v++) {
+            put(row + n + v * VB, is[v]);
+            put(row + around + n + v * VB, is[v]);
+        }
+    }
+}
+
+/* Adds a batch's counts, `rows` rows from row e on. */
+INLINE void add_rows(Fast *f, const Term *terms, int count, int e, const int rows, const int vecs)
+{
+    const int width = 2 * vecs * VB;
+    Vec sum[3][WORD] = {{{0}}};
+    const uint8_t *marks = f->marks + e * width;
+    for (int i = 0; i < count; i++)
+        for (int r = 0; r < rows; r++)
+            for (int v = 0; v < vecs; v++)
+                sum[r][v] -= get(marks + terms[i].count_at + r * width + v * VB);
+    for (int r = 0; r < rows; r++) {
+        uint8_t bytes[64] ALIGNED;
+        int16_t *to = f->counts + (e + r) * 64;
+        for (int v = 0; v < vecs; v++)
+            put(bytes + v * VB, sum[r][v]);
+        for (int j = 0; j < vecs * VB; j++)
+            to[j] = (int16_t)(to[j] + bytes[j]);
+    }
+}
+
+/* The matrix by sums of marks, over batches of as many dual words as bytes can count. */
+INLINE void count_by_marks(Fast *f, const int vecs)
+{
+    int rows = f->q - 1, size = 2 * rows * 2 * vecs * VB;
+    const Term *terms = f->lists;
+    memset(f->counts, 0, (size_t)rows * 128);
+    for (int l = 0; l < f->duals; l += f->batch) {
+        int words = f->duals - l < f->batch ? f->duals - l : f->batch, e = 0;
+        for (int i = 0; i < words; i++) {
+            Vec w[WORD];
+            sum_terms(f, terms + i * f->weight, vecs, w);
+            mark(f, f->marks + i * size, w, vecs);
+        }
+        for (; e + 3 <= rows; e += 3)
+            add_rows(f, terms, words * f->weight, e, 3, vecs);
+        for (; e < rows; e++)
+            add_rows(f, terms, words * f->weight, e, 1, vecs);
+        terms += words * f->weight;
+    }
+}
+
+/* The offsets of a product's symbols: row log W, a row apart for zero, and the place; twice, so that turning is an offset. */
+INLINE void offsets(const Fast *f, const Vec *w, const int n, const int vecs, uint16_t *at)
+{
+    uint8_t bytes[64] ALIGNED;
+    for (int v = 0; v < vecs; v++)
+        put(bytes + v * VB, w[v]);
+    for (int m = 0; m < n; m++) {
+        unsigned to = f->rows[bytes[m]] + (unsigned)m;
+        at[m] = (uint16_t)to;
+        at[m + n] = (uint16_t)(to + (unsigned)n);
+    }
+}
+
+/* The matrix by scattering: row log W - log b + q - 1, the rows e and e + q - 1 being one symbol's. Place n is counted too, and never read. */
+INLINE void count_by_scatter(Fast *f, const int n, const int vecs)
+{
+    const int width = n + 1;
+    int rows = f->q - 1;
+    memset(f->scatter, 0, sizeof(uint16_t) * 2 * (size_t)(rows * width));
+    for (int e = 0; e < rows; e++)
+        f->rows[f->exps[e]] = (uint16_t)(e * width);
+    f->rows[0] = (uint16_t)(2 * rows * width);
+    for (int l = 0; l < f->duals; l++) {
+        const Term *terms = f->lists + l * f->weight;
+        Vec w[WORD];
+        uint16_t at[128];
+        sum_terms(f, terms, vecs, w);
+        offsets(f, w, n, vecs, at);
+        for (int i = 0; i < f->weight; i++) {
+            const int turn = terms[i].count_at & 63;
+            uint16_t *restrict to = f->scatter + (rows - (terms[i].count_at >> 6)) * width - turn;
+            const uint16_t *from = at + turn;
+            for (int j = 0; j < width; j += 8) { /* eight are read first, or gcc reads each after the store before it */
+                unsigned a[8];
+                for (int z = 0; z < 8; z++)
+                    a[z] = from[j + z];
+                for (int z = 0; z < 8; z++)
+                    to[a[z]]++;
+            }
+        }
+    }
+    for (int e = 0; e < rows; e++)
+        for (int j = 0; j < width; j++)
+            f->counts[e * 64 + j] = (int16_t)(f->scatter[e * width + j] + f->scatter[(e + rows) * width + j]);
+}
+
+static void count(Fast *f)
+{
+    if (scatters(f))
+        count_by_scatter(f, 63, WORD);
+    else if (f->vecs == 1)
+        count_by_marks(f, 1);
+    else if (f->vecs == 2)
+        count_by_marks(f, 2);
+    else
+        count_by_marks(f, WORD);
+}
+
+/* The largest t such that more than `most` of the 64 numbers are t or more. */
+INLINE int threshold(const int16_t *a, int most, int top)
+{
+    int t = 0;
+    for (int bit = top; bit; bit >>= 1) {
+        Wide count = {0}, least = (Wide){0} + (int16_t)((t | bit) - 1);
+        for (int v = 0; v < 128 / VB; v++)
+            count -= (Wide)(*(const Wide *)(a + v * VB / 2) > least);
+        if ((int)wide_sum(count) > most)
+            t |= bit;
+    }
+    return t;
+}
+
+/* Subtracts the update set; says whether it was not empty. */
+static int update(Fast *f, uint8_t *word)
+{
+    int16_t peak[64] ALIGNED = {0}, total[64] ALIGNED = {0}, who[64] ALIGNED = {0};
+    int top = 1, low, high;
+    uint8_t changed = 0;
+    for (int e = 0; e < f->q - 1; e++) {
+        const int16_t *row = f->counts + e * 64;
+        int16_t symbol = f->exps[e];
+        for (int j = 0; j < 64; j++) {
+            int16_t x = row[j], old = peak[j];
+            total[j] = (int16_t)(total[j] + x);
+            who[j] = x > old ? symbol : x == old ? 0 : who[j];
+            peak[j] = x > old ? x : old;
+        }
+    }
+    for (int j = f->n; j < 64; j++)
+        peak[j] = total[j] = 0;
+    while (2 * top <= f->duals * f->weight)
+        top *= 2;
+    low = threshold(total, f->places, top);
+    high = threshold(peak, f->places, top);
+    for (int j = 0; j < 64; j++) {
+        uint8_t e = (uint8_t)(who[j] & -((total[j] > low) & (peak[j] > high)));
+        word[j] ^= e;
+        changed |= e;
+    }
+    return changed != 0;
+}
+
+/*
+ * p 1 and 2: a digit of all 63 symbols in one number. Check values stand one after the other in a stream, and a tree of full adders counts the
+ * stream column by column, all columns at once.
+ */
+typedef struct {
+    uint64_t digit[2];
+} Bits;
+typedef uint64_t Pair __attribute__((vector_size(16), aligned(8), may_alias));
+
+/* The digits of the multiples of a word by 1, 2 and 3 are pairs of neighbours here. */
+INLINE void spread(const uint64_t *digit, const int p, uint64_t *out)
+{
+    out[0] = digit[0];
+    if (p == 2) {
+        out[1] = digit[1];
+        out[2] = digit[0] ^ digit[1];
+        out[3] = digit[0];
+    }
+}
+
+/* As prepare: a term's place and symbol for the product, its place and its symbol's inverse for the count. */
+INLINE void prepare_bits(Fast *f, const int p)
+{
+    static const uint32_t both[4] = {0, 0, 1 | 2u << 24, 2 | 1u << 24};
+    Term *to = f->lists;
+    for (int l = 0; l < f->duals; l++) {
+        const uint8_t *b = f->book + AT_DUALS + 1 + 64 * l;
+        for (uint64_t left = support(b - 1); left; left &= left - 1) {
+            uint32_t u = (uint32_t)__builtin_ctzll(left), t = (p == 2 ? both[b[u]] : 0) + u * (p == 2 ? 0x10004u : 0x10001u);
+            memcpy(to++, &t, 4);
+        }
+    }
+}
+
+INLINE int test_bits(const Fast *f, const Bits *r, const int p)
+{
+    uint64_t s[4], y[2] = {0};
+    spread(r->digit, p, s);
+    for (int t = 0; t <= f->k; t++) {
+        int c = f->h[t];
+        if (p == 1)
+            y[0] ^= s[0] << t & -(uint64_t)c;
+        else
+            for (int i = 0; i < 2 && c; i++)
+                y[i] ^= s[c - 1 + i] << t;
+    }
+    return ((y[0] | y[1]) << (64 - f->n) >> (64 - f->d)) == 0;
+}
+
+/* The word turned by every t. */
+INLINE void turn_bits(Fast *f, const Bits *r, const int p)
+{
+    uint64_t mask = ~(uint64_t)0 >> (64 - f->n);
+    for (int t = 0; t < f->n; t++) {
+        uint64_t turned[2];
+        for (int i = 0; i < p; i++)
+            turned[i] = (r->digit[i] << t | r->digit[i] >> (f->n - t)) & mask;
+        spread(turned, p, f->turns + t * (p == 2 ? 4 : 1));
+    }
+}
+
+/* The product of a dual word and the word, spread. */
+INLINE void product_bits(const Fast *f, const Term *terms, const int p, uint64_t *s)
+{
+    uint64_t w[2] = {0};
+    Pair both = {0};
+    for (int i = 0; i < f->weight; i++)
+        if (p == 1)
+            w[0] ^= f->turns[terms[i].sum_at];
+        else
+            both ^= *(const Pair *)(f->turns + terms[i].sum_at);
+    if (p == 2) {
+        w[0] = both[0];
+        w[1] = both[1];
+    }
+    spread(w, p, s);
+}
+
+/* Every dual word's product with the word, divided by each of its symbols and turned, put into the stream; zeros fill it up. */
+INLINE int stream_bits(Fast *f, const Bits *r, const int p)
+{
+    int n = f->n, out = 0;
+    const Term *terms = f->lists;
+    turn_bits(f, r, p);
+    for (int l = 0; l < f->duals; l++, terms += f->weight) {
+        uint64_t s[4];
+        product_bits(f, terms, p, s);
+        for (int i = 0; i < f->weight; i++, out++) {
+            int h = terms[i].count_at & 255, c = terms[i].count_at >> 8;
+            if (p == 1) {
+                f->stream[0][out] = s[0] >> h | s[0] << (n - h);
+            } else { /* both digits at once: shifts by a number are slow */
+                Pair x = *(const Pair *)(s + c);
+                x = x >> h | x << (n - h);
+                f->stream[0][out] = x[0];
+                f->stream[1][out] = x[1];
+            }
+        }
+    }
+    while (out % (16 * (VB / 8))) {
+        f->stream[0][out] = f->stream[1][out] = 0;
+        out++;
+    }
+    return out;
+}
+
+INLINE void add_three(Quad *high, Quad *low, Quad a, Quad b)
+{
+    Quad u = *low ^ a;
+    *high = (*low & a) | (u & b);
+    *low = u ^ b;
+}
+
+/* Which of the stream's columns are 1 (form 0), 2 (form 1) or 3 (form 2). */
+INLINE Quad form_of(const Fast *f, int i, const int p, const int form)
+{
+    Quad a = *(const Quad *)(f->stream[0] + i), b;
+    if (p == 1)
+        return a;
+    b = *(const Quad *)(f->stream[1] + i);
+    return form == 0 ? a & ~b : form == 1 ? b & ~a : a & b;
+}
+
+/* Counts of one row of the matrix, digit by digit, each lane for itself. */
+INLINE void count_form(const Fast *f, int count, const int p, const int form, Quad *sum)
+{
+    const int step = VB / 8;
+    Quad c[4] = {{0}};
+    for (int i = 4; i < PLANES; i++)
+        sum[i] = (Quad){0};
+    for (int i = 0; i < count; i += 16 * step) {
+        Quad eights[2], carry;
+        for (int z = 0; z < 2; z++) {
+            Quad fours[2];
+            for (int y = 0; y < 2; y++) {
+                Quad twos[2];
+                for (int x = 0; x < 2; x++) {
+                    int at = i + (8 * z + 4 * y + 2 * x) * step;
+                    add_three(&twos[x], &c[0], form_of(f, at, p, form), form_of(f, at + step, p, form));
+                }
+                add_three(&fours[y], &c[1], twos[0], twos[1]);
+            }
+            add_three(&eights[z], &c[2], fours[0], fours[1]);
+        }
+        add_three(&carry, &c[3], eights[0], eights[1]);
+        for (int k = 4; k < PLANES; k++) {
+            Quad next = sum[k] & carry;
+            sum[k] ^= carry;
+            carry = next;
+        }
+    }
+    for (int k = 0; k < 4; k++)
+        sum[k] = c[k];
+}
+
+INLINE void add_numbers(uint64_t *a, const uint64_t *b)
+{
+    uint64_t carry = 0;
+    for (int k = 0; k < PLANES; k++) {
+        uint64_t u = a[k] ^ b[k], next = (a[k] & b[k]) | (u & carry);
+        a[k] = u ^ carry;
+        carry = next;
+    }
+}
+
+INLINE void count_row(const Fast *f, int count, const int p, const int form, uint64_t *row)
+{
+    Quad sum[PLANES];
+    uint64_t other[PLANES];
+    count_form(f, count, p, form, sum);
+    for (int k = 0; k < PLANES; k++)
+        row[k] = sum[k][0];
+    for (int lane = 1; lane < VB / 8; lane++) {
+        for (int k = 0; k < PLANES; k++)
+            other[k] = sum[k][lane];
+        add_numbers(row, other);
+    }
+}
+
+INLINE int ones(uint64_t x)
+{
+    x -= x >> 1 & 0x5555555555555555u;
+    x = (x & 0x3333333333333333u) + (x >> 2 & 0x3333333333333333u);
+    return (int)(((x + (x >> 4)) & 0x0f0f0f0f0f0f0f0fu) * 0x0101010101010101u >> 56);
+}
+
+/* The columns, of those in the mask, whose numbers at most `most` columns reach. */
+INLINE uint64_t highest(const uint64_t *number, uint64_t mask, int most)
+{
+    uint64_t above = 0, level = mask;
+    for (int k = PLANES - 1; k >= 0; k--) {
+        uint64_t reach = above | (level & number[k]);
+        if (ones(reach) > most) {
+            level &= number[k];
+        } else {
+            above = reach;
+            level &= ~number[k];
+        }
+    }
+    return above;
+}
+
+/* Where a is above b, and where they are equal. */
+INLINE void compare(const uint64_t *a, const uint64_t *b, uint64_t *above, uint64_t *equal)
+{
+    *above = 0;
+    *equal = ~(uint64_t)0;
+    for (int k = 0; k < PLANES; k++) {
+        uint64_t unlike = a[k] ^ b[k];
+        *above = (*above & ~unlike) | (a[k] & unlike);
+        *equal &= ~unlike;
+    }
+}
+
+INLINE void choose(uint64_t *a, const uint64_t *b, uint64_t keep)
+{
+    for (int k = 0; k < PLANES; k++)
+        a[k] = (a[k] & keep) | (b[k] & ~keep);
+}
+
+INLINE void count_bits(const Fast *f, int count, const int p, uint64_t rows[3][PLANES])
+{
+    count_row(f, count, p, 0, rows[0]);
+    if (p == 2) {
+        count_row(f, count, p, 1, rows[1]);
+        count_row(f, count, p, 2, rows[2]);
+    }
+}
+
+/* What to subtract. For p 1 the peak is the sum of the rows and has one holder. */
+INLINE Bits update_bits(const Fast *f, uint64_t rows[3][PLANES], const int p)
+{
+    uint64_t total[PLANES], a12, e12, a, e, set, mask = ~(uint64_t)0 >> (64 - f->n), *peak = rows[0];
+    if (p == 1)
+        return (Bits){{highest(peak, mask, f->places), 0}};
+    memcpy(total, peak, sizeof total);
+    add_numbers(total, rows[1]);
+    add_numbers(total, rows[2]);
+    compare(peak, rows[1], &a12, &e12);
+    choose(peak, rows[1], a12);
+    compare(peak, rows[2], &a, &e);
+    choose(peak, rows[2], a);
+    set = highest(total, mask, f->places) & highest(peak, mask, f->places);
+    return (Bits){{set & ((a & a12) | ~(a | e)), set & ((a & ~a12 & ~e12) | ~(a | e))}};
+}
+
+static uint32_t packed(char kind, int rounds, int changed)
+{
+    return (uint32_t)changed << 8 | (uint32_t)rounds << 16 | (uint32_t)kind << 24;
+}
+
+INLINE void store_bits(const Bits *r, int n, uint8_t *answer)
+{
+    for (int j = 0; j < n; j++)
+        answer[j] = (uint8_t)((r->digit[0] >> j & 1) | (r->digit[1] >> j & 1) << 1);
+}
+
+INLINE uint32_t run_bits(Fast *f, const uint8_t *received, const uint8_t *word, int *ready, uint8_t *answer, const int p)
+{
+    Bits r = {{plane(word, 0), p == 2 ? plane(word, 1) : 0}}, first = r;
+    size_t n = (size_t)f->n;
+    memcpy(answer, received, n);
+    if (test_bits(f, &r, p))
+        return packed('C', 0, 0);
+    if (!*ready)
+        prepare_bits(f, p);
+    *ready = 1;
+    for (int round = 1; round <= f->rounds; round++) {
+        uint64_t rows[3][PLANES];
+        count_bits(f, stream_bits(f, &r, p), p, rows);
+        Bits e = update_bits(f, rows, p);
+        if ((e.digit[0] | e.digit[1]) == 0)
+            return packed('S', round, 0);
+        r.digit[0] ^= e.digit[0];
+        r.digit[1] ^= e.digit[1];
+        if (test_bits(f, &r, p)) {
+            store_bits(&r, f->n, answer);
+            return packed('M', round, ones((r.digit[0] ^ first.digit[0]) | (r.digit[1] ^ first.digit[1])));
+        }
+    }
+    return packed('X', f->rounds, 0);
+}
+
+static uint32_t run(Fast *f, const uint8_t *received, uint8_t *word, int *ready, uint8_t *answer)
+{
+    size_t n = (size_t)f->n;
+    load_word(f, word);
+    memcpy(answer, received, n);
+    if (is_code_word(f))
+        return packed('C', 0, 0);
+    if (!*ready)
+        prepare(f);
+    *ready = 1;
+    for (int round = 1; round <= f->rounds; round++) {
+        count(f);
+        if (!update(f, word))
+            return packed('S', round, 0);
+        load_word(f, word);
+        if (is_code_word(f)) {
+            int changed = 0;
+            for (size_t j = 0; j < n; j++)
+                changed += word[j] != received[j];
+            memcpy(answer, word, n);
+            return packed('M', round, changed);
+        }
+    }
+    return packed('X', f->rounds, 0);
+}
+
+/* A received word of n symbols, refusal 11 looked for. */
+static uint32_t decode_word(Fast *f, const uint8_t *received, int *ready, uint8_t *answer)
+{
+    uint8_t word[64] ALIGNED = {0};
+    Vec bad = {0};
+    memcpy(word, received, (size_t)f->n);
+    for (int v = 0; v < WORD; v++)
+        bad |= get(word + v * VB);
+    if (any(bad & all((uint8_t)~(f->q - 1))))
+        return 11;
+    if (f->p == 1)
+        return run_bits(f, received, word, ready, answer, 1);
+    if (f->p == 2)
+        return run_bits(f, received, word, ready, answer, 2);
+    return run(f, received, word, ready, answer);
+}
+
+uint32_t FAST(check)(const uint8_t *book, size_t book_len)
+{
+    Fast f;
+    return accept(&f, book, book_len) ? 256u * (unsigned)f.duals : literal_check(book, book_len);
+}
+
+uint32_t FAST(decode)(const uint8_t *book, size_t book_len, const uint8_t *received, size_t received_len, uint8_t *answer, size_t answer_len)
+{
+    Fast f;
+    int ready = 0;
+    if (!accept(&f, book, book_len))
+        return literal_check(book, book_len);
+    if (received_len != (size_t)f.n)
+        return 9;
+    if (answer_len != (size_t)f.n)
+        return 10;
+    return decode_word(&f, received, &ready, answer);
+}
+
+typedef struct {
+    Fast f;
+    int ready;
+} Opened;
+
+size_t FAST(room)(void)
+{
+    return sizeof(Opened) + 64;
+}
+
+static Opened *opened(void *room)
+{
+    return (Opened *)(((uintptr_t)room + 63) & ~(uintptr_t)63);
+}
+
+uint32_t FAST(open)(void *room, const uint8_t *book, size_t book_len)
+{
+    Opened *o = opened(room);
+    o->ready = 0;
+    return accept(&o->f, book, book_len) ? 256u * (unsigned)o->f.duals : literal_check(book, book_len);
+}
+
+uint32_t FAST(next)(void *room, const uint8_t *received, uint8_t *answer)
+{
+    Opened *o = opened(room);
+    return decode_word(&o->f, received, &o->ready, answer);
+}
+
+/* Parts where digits are numbers. What a part finds goes to `seen`, so that it is not left out. */
+INLINE void part_bits(Fast *f, enum FastPart part, const uint8_t *word, const int p, uint64_t rows[3][PLANES], uint64_t *seen)
+{
+    Bits r = {{plane(word, 0), p == 2 ? plane(word, 1) : 0}};
+    uint64_t s[4];
+    if (part == FAST_LISTS)
+        prepare_bits(f, p);
+    else if (part == FAST_TEST)
+        *seen += (unsigned)test_bits(f, &r, p);
+    else if (part == FAST_PRODUCTS) {
+        turn_bits(f, &r, p);
+        for (int l = 0; l < f->duals; l++) {
+            product_bits(f, f->lists + l * f->weight, p, s);
+            *seen += s[0];
+        }
+    } else if (part == FAST_MATRIX)
+        count_bits(f, stream_bits(f, &r, p), p, rows);
+    else
+        *seen += update_bits(f, rows, p).digit[0];
+}
+
+static void part_bytes(Fast *f, enum FastPart part, uint8_t *word, uint64_t *seen)
+{
+    Vec w[WORD];
+    if (part == FAST_LISTS)
+        prepare(f);
+    else if (part == FAST_TEST) {
+        load_word(f, word);
+        *seen += (unsigned)is_code_word(f);
+    } else if (part == FAST_PRODUCTS)
+        for (int l = 0; l < f->duals; l++) {
+            sum_terms(f, f->lists + l * f->weight, WORD, w);
+            *seen += w[0][0];
+        }
+    else if (part == FAST_MATRIX)
+        count(f);
+    else
+        *seen += (unsigned)update(f, word);
+}
+
+static void any_part(Fast *f, enum FastPart part, const uint8_t *book, size_t book_len, uint8_t *word, uint64_t rows[3][PLANES], uint64_t *seen)
+{
+    if (part == FAST_CHECK)
+        *seen += (unsigned)accept(f, book, book_len);
+    else if (f->p == 1)
+        part_bits(f, part, word, 1, rows, seen);
+    else if (f->p == 2)
+        part_bits(f, part, word, 2, rows, seen);
+    else
+        part_bytes(f, part, word, seen);
+}
+
+uint64_t FAST(part)(void *room, enum FastPart part, const uint8_t *book, size_t book_len, const uint8_t *received, long times)
+{
+    Fast *f = &opened(room)->f;
+    uint8_t word[64] ALIGNED = {0};
+    uint64_t rows[3][PLANES] = {{0}}, seen = 0;
+    accept(f, book, book_len);
+    memcpy(word, received, (size_t)f->n);
+    for (enum FastPart before = FAST_CHECK; before < part; before++) /* what the part reads */
+        any_part(f, before, book, book_len, word, rows, &seen);
+    for (long i = 0; i < times; i++)
+        any_part(f, part, book, book_len, word, rows, &seen);
+    return seen;
+}

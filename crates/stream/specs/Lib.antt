@@ -1,0 +1,3 @@
+pub mod Output
+pub mod Example
+pub mod Reads

@@ -1,0 +1,7 @@
+pub mod Window
+pub mod Listing
+pub mod Rows
+pub mod Adding
+pub mod Tables
+pub mod Dividing
+pub mod Degree

@@ -1,0 +1,155 @@
+// Products and divisions read off a table of multiples. Words stand in arrays of 64 or 128 places, of which only those below n, or below 2 * n, tell: loops
+// of a fixed length are whole vector steps.
+ghost use mathlib.Core.Path.{_≡_};
+ghost use Prim.Native.Nat.{_+_, _*_, _^_, _≤_, _<_};
+ghost use lib.Bits.{bitXor};
+ghost use lib.Dec.{eqb};
+ghost use lib.ListN.{length};
+ghost use Rattle.range.specs.Fold.{all};
+ghost use Rattle.range.specs.Table.{table, padded};
+ghost use Rattle.word.specs.Word.{at};
+ghost use Rattle.array.specs.Stored.{place, Sizes, Stored};
+ghost use Rattle.tables.specs.Multiples.{Twofold, wordOf, Multiples, RowPut, Tabled, Multiplied};
+ghost use Rattle.tables.specs.Support.{Lists};
+
+pub mod division;
+
+// The places where a word is not zero, in rising order.
+pub struct Nonzeros {
+    pub count: usize,
+    pub places: [u8; 64],
+}
+
+// A byte as an index.
+pub fn wide(x: u8) -> usize
+    ensures { λ r. ⌜ r ≡ x ⌝ }
+{
+    x as usize
+}
+
+// Lists the places below n where b is not zero: each place is written, and stays where the count goes on.
+pub fn support(n: usize, b: [u8; 63]) -> Nonzeros
+    requires { ⌜ n ≤ 63 ⌝ }
+    ensures { λ r. ⌜ Lists n (place b) r ⌝ }
+{
+    let mut places = [0u8; 64];
+    let mut count: usize = 0;
+    let mut h = 0;
+    while h < n {
+        places[count] = h as u8;
+        count += (b[h] != 0) as usize;
+        h += 1;
+    }
+    Nonzeros { count, places }
+}
+
+// A word of n symbols in 64 places.
+pub fn widened(n: usize, w: [u8; 63]) -> [u8; 64]
+    requires { ⌜ n ≤ 63 ⌝ }
+    ensures { λ r. ⌜ r ≡ padded 64 n (place w) ⌝ }
+{
+    let mut word = [0u8; 64];
+    let mut j = 0;
+    while j < n {
+        word[j] = w[j];
+        j += 1;
+    }
+    word
+}
+
+// The same places, and 64 more.
+fn extended(w: [u8; 64]) -> [u8; 128]
+    ensures { λ r. ⌜ r ≡ table 128 (place w) ⌝ }
+{
+    let mut out = [0u8; 128];
+    let mut j = 0;
+    while j < 64 {
+        out[j] = w[j];
+        j += 1;
+    }
+    out
+}
+
+// A word of n symbols twice over, so that no place is taken modulo n.
+pub fn doubled(p: u8, n: usize, w: [u8; 64]) -> [u8; 128]
+    requires { ⌜ (1 ≤ n) × (n ≤ 63) × Stored p 64 w ⌝ }
+    ensures { λ r. ⌜ Twofold p n w r ⌝ }
+{
+    let mut out = extended(w);
+    let mut j = 0;
+    while j < 64 {
+        out[n + j] = w[j];
+        j += 1;
+    }
+    out
+}
+
+// Row c of a table: c times the symbols of d.
+fn put_multiple(p: u8, c: u8, d: [u8; 128], t: &mut [u8])
+    requires { ⌜ (1 ≤ p) × (p ≤ 6) × (c < 2 ^ p) × Stored p 128 d × (128 * 2 ^ p ≤ length (now t)) ⌝ }
+    ensures { λ _. ⌜ RowPut p c d (now (t .entry)) (now (t .exit)) ⌝ }
+{
+    let from = 128 * wide(c);
+    let mut j = 0;
+    while j < 128 {
+        t[from + j] = field::mul(p, c, d[j]);
+        j += 1;
+    }
+}
+
+// Makes the table of the multiples of a word.
+pub fn tabulate(p: u8, n: usize, w: [u8; 64], t: &mut [u8])
+    requires { ⌜ Sizes p n × Stored p 64 w × (128 * 2 ^ p ≤ length (now t)) ⌝ }
+    ensures { λ _. ⌜ Tabled p n w (now (t .entry)) (now (t .exit)) ⌝ }
+{
+    let d = doubled(p, n, w);
+    let q = field::order(p);
+    let mut c: u8 = 0;
+    while c < q {
+        put_multiple(p, c, d, t);
+        c += 1;
+    }
+}
+
+// Adds 64 places of a table to a word.
+fn add_row(t: &[u8], from: usize, sum: &mut [u8; 64])
+    requires { ⌜ (from + 64 ≤ length (now t)) × (length (now sum) ≡ 64) ⌝ }
+    ensures { λ _. ⌜ now (sum .exit) ≡ table 64 (λ j. bitXor (place (now (sum .entry)) j) (place (now (t .entry)) (from + j))) ⌝ }
+{
+    let mut j = 0;
+    while j < 64 {
+        sum[j] = sum[j] ^ t[from + j];
+        j += 1;
+    }
+}
+
+// The product of b, whose nonzero places are s, and the word of a table: for each of them, u, the row of b's symbol, turned by u.
+pub fn product(p: u8, n: usize, b: [u8; 63], s: Nonzeros, t: &[u8]) -> [u8; 64]
+    requires { ⌜ Sizes p n × Stored p n b × Lists n (place b) s × Multiples p n (now t) ⌝ }
+    ensures { λ r. ⌜ Multiplied p n (at n b) (wordOf n (now (t .entry))) r ⌝ }
+{
+    let count = s.count;
+    let places = s.places;
+    let mut sum = [0u8; 64];
+    let mut i = 0;
+    while i < count {
+        let u = wide(places[i]);
+        add_row(t, 128 * wide(b[u]) + (n - u), &mut sum);
+        i += 1;
+    }
+    sum
+}
+
+// Whether the places below n are all zero: the others are counted, with no branch.
+pub fn vanishes(n: usize, w: &[u8]) -> bool
+    requires { ⌜ (n ≤ 128) × (n ≤ length (now w)) ⌝ }
+    ensures { λ r. ⌜ r ≡ all n (λ j. eqb (place (now (w .entry)) j) 0) ⌝ }
+{
+    let mut found: u8 = 0;
+    let mut j = 0;
+    while j < n {
+        found += (w[j] != 0) as u8;
+        j += 1;
+    }
+    found == 0
+}

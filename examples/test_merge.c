@@ -1,0 +1,119 @@
+/*
+ * The merge's rules, one by one:
+ *
+ *     test_merge BOOKS
+ *
+ * by book A and line15 of the folder BOOKS. Every word must be held as it came, and the frame that stood must stand.
+ */
+#include "merge.h"
+
+#include <stdio.h>
+#include <string.h>
+
+static struct book book_a, line15;
+static struct game game;
+static unsigned long passed, failed;
+
+static void expect(const char *name, int holds)
+{
+    if (holds) {
+        passed++;
+        return;
+    }
+    failed++;
+    printf("failed: %s\n", name);
+}
+
+/* Merges a word written as digits, for frame 1 of the game. */
+static void merges(const char *name, const struct book *book, const char *digits, enum verdict verdict, enum source source, unsigned pins)
+{
+    uint8_t word[RAW_MAX];
+    size_t len = strlen(digits), j, before = game.held_count;
+    const struct held *held;
+    for (j = 0; j < len; j++)
+        word[j] = (uint8_t)(digits[j] - '0');
+    held = merge_lane(&game, book, 0, word, len);
+    expect(name, held != NULL && held->verdict == verdict);
+    expect(name, game.source[0] == source && game.frames[0].pins[0] == pins);
+    expect(name, game.held_count == before + 1 && held == &game.held[before] && held->len == len && memcmp(held->raw, word, len) == 0);
+    expect(name, merge_open(verdict) == (verdict != TAKEN && verdict != AGREED));
+}
+
+/* A new game in which the server has the first frame, or not. */
+static void begin(int server, unsigned pins)
+{
+    struct frame frame = {{0, 0, 0}};
+    merge_begin(&game);
+    frame.pins[0] = pins;
+    if (server)
+        merge_server(&game, 0, &frame);
+}
+
+/* In book A, 1 pin is coded as 1101000 and 2 pins as 0110100; 11 pins, which no ball has, as 1010001. */
+static void test_verdicts(void)
+{
+    begin(0, 0);
+    merges("Spent, no frame", &line15, "001011001000000", UNREACHED, NOBODY, 0);
+    merges("Stalled, no frame", &line15, "001010001000100", UNREACHED, NOBODY, 0);
+    merges("a word of no symbols", &book_a, "", REFUSED, NOBODY, 0);
+    merges("a word cut", &book_a, "110100", REFUSED, NOBODY, 0);
+    merges("a word of 8", &book_a, "11010000", REFUSED, NOBODY, 0);
+    merges("a bad symbol", &book_a, "1101002", REFUSED, NOBODY, 0);
+    merges("eleven pins", &book_a, "1010001", IMPOSSIBLE, NOBODY, 0);
+    merges("Clean, taken", &book_a, "1101000", TAKEN, LANE, 1);
+    merges("Mended, agrees with the lane's own", &book_a, "1101001", AGREED, LANE, 1);
+    merges("Clean, differs from the lane's own", &book_a, "0110100", DISPUTED, LANE, 1);
+    merges("refused, the lane's own stays", &book_a, "2101000", REFUSED, LANE, 1);
+    begin(0, 0);
+    merges("Mended, taken", &book_a, "1100000", TAKEN, LANE, 1);
+}
+
+static void test_server(void)
+{
+    begin(1, 2);
+    merges("Clean, agrees with the server", &book_a, "0110100", AGREED, SERVER, 2);
+    merges("Mended, agrees with the server", &book_a, "0110101", AGREED, SERVER, 2);
+    merges("Clean, differs from the server", &book_a, "1101000", DISPUTED, SERVER, 2);
+    merges("Mended into another word", &book_a, "1100000", DISPUTED, SERVER, 2);
+    merges("eleven pins", &book_a, "1010001", IMPOSSIBLE, SERVER, 2);
+    merges("refused", &book_a, "3110100", REFUSED, SERVER, 2);
+    merges("Spent", &line15, "001011001000000", UNREACHED, SERVER, 2);
+    merges("Stalled", &line15, "001010001000100", UNREACHED, SERVER, 2);
+}
+
+/* What cannot be held is not merged either. */
+static void test_room(void)
+{
+    static const uint8_t long_word[RAW_MAX + 1];
+    static const uint8_t one_pin[7] = {1, 1, 0, 1};
+    unsigned i;
+    begin(0, 0);
+    expect("a word too long to be held", merge_lane(&game, &book_a, 0, long_word, sizeof long_word) == NULL && game.held_count == 0);
+    expect("a frame that no game has", merge_lane(&game, &book_a, FRAMES, one_pin, 7) == NULL && game.held_count == 0);
+    for (i = 0; i < HELD_MAX; i++)
+        expect("room", merge_lane(&game, &book_a, 0, one_pin, 7) != NULL);
+    expect("no room", merge_lane(&game, &book_a, 1, one_pin, 7) == NULL && game.source[1] == NOBODY && game.held_count == HELD_MAX);
+    expect("paid", merge_paid(&game) == HELD_MAX && game.held_count == 0 && game.held[0].raw[0] == 0);
+    expect("room again, and the game stands", merge_lane(&game, &book_a, 1, one_pin, 7) != NULL && game.source[0] == LANE);
+}
+
+static int load(struct book *book, const char *folder, const char *name)
+{
+    char path[4096];
+    int length = snprintf(path, sizeof path, "%s/%s.book", folder, name);
+    if (length < 0 || (size_t)length >= sizeof path || !book_read(book, path) || SHIFTSUM_REFUSAL(shiftsum_check(book->bytes, book->len)) != 0)
+        return 0;
+    book_measure(book);
+    return 1;
+}
+
+int main(int argc, char **argv)
+{
+    if (argc != 2 || !load(&book_a, argv[1], "a") || !load(&line15, argv[1], "line15"))
+        return 2;
+    test_verdicts();
+    test_server();
+    test_room();
+    printf("%lu passed, %lu failed\n", passed, failed);
+    return failed == 0 ? 0 : 1;
+}

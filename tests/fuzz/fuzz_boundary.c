@@ -1,0 +1,606 @@
+/*
+ * The four functions of the library on any bytes, against the second implementation: a target for libFuzzer.
+ *
+ * An input makes one codebook, a message, a received word and the sizes of the outputs, and all four functions are called with them; decode again
+ * with a few errors more where the word was not refused. So that most calls get past the codebook's refusals, an input mostly names an accepted
+ * codebook of a shelf and a few edits; it can give all bytes as well.
+ *
+ * The archive is not made for the sanitizer, which therefore sees nothing of what happens in it. So every buffer lies in pages of its own between
+ * pages that may not be touched, at one end of them, and the rest of the pages is filled: reading or writing beyond that end stops the program, and
+ * what is written beyond the other shows. What a call must not write may not be written while it runs, the output of a refused call too.
+ *
+ * With FAULTS defined the library is made wrong in the way that the environment variable FAULT names, to see that the comparison finds it.
+ */
+#include "shiftsum.h"
+
+#include <stdio.h>
+#include <stdlib.h>
+#include <string.h>
+#include <sys/mman.h>
+#include <unistd.h>
+
+/* The second implementation. */
+uint32_t reference_check(const uint8_t *book, size_t book_len);
+uint32_t reference_code(const uint8_t *book, size_t book_len, const uint8_t *message, size_t message_len, uint8_t *word, size_t word_len);
+uint32_t reference_read(const uint8_t *book, size_t book_len, const uint8_t *word, size_t word_len, uint8_t *message, size_t message_len);
+uint32_t reference_decode(const uint8_t *book, size_t book_len, const uint8_t *received, size_t received_len, uint8_t *answer, size_t answer_len);
+size_t reference_shelf(size_t number, uint8_t *book);
+
+enum { RECORD = 64, MOST_BOOK = 2600, LARGEST = 63, MOST_SHELF = 256, ROOM = 4096 };
+
+/* Where the parts of a codebook lie. */
+enum { AT_S = 1, AT_P = 2, AT_G = 4, AT_I = 68, AT_D = 69, AT_RECORDS = 70 };
+
+/* A decode that takes more products of symbols than this is left out: the second implementation is slow. */
+enum { MOST_PRODUCTS = 400000 };
+
+struct bytes {
+    uint8_t at[MOST_BOOK];
+    size_t len;
+};
+
+static struct bytes shelf[MOST_SHELF];
+static size_t books;
+
+/* --- The input, read from its front; zeros follow its end. --- */
+
+struct input {
+    const uint8_t *at;
+    size_t left;
+    uint32_t drawn;
+};
+
+static uint8_t next(struct input *input)
+{
+    if (input->left == 0)
+        return 0;
+    input->left--;
+    return *input->at++;
+}
+
+static size_t next_two(struct input *input)
+{
+    size_t low = next(input);
+    return low + 256 * (size_t)next(input);
+}
+
+/* Bytes that follow from a number in the input, so that a short input can make a word of many different symbols. */
+static uint8_t draw(struct input *input)
+{
+    input->drawn = input->drawn * 1664525u + 1013904223u;
+    return (uint8_t)(input->drawn >> 24);
+}
+
+/* From the input while it lasts. */
+static uint8_t any(struct input *input)
+{
+    return input->left > 0 ? next(input) : draw(input);
+}
+
+/* --- What a codebook says of the sizes, whether it is accepted or not. --- */
+
+struct shape {
+    size_t n, k;
+    unsigned q;
+};
+
+static struct shape shape_of(const struct bytes *book)
+{
+    struct shape shape = {7, 4, 2};
+    size_t place, degree = 0;
+    unsigned s = book->at[AT_S], p = book->at[AT_P];
+    if (book->len < AT_RECORDS || s < 2 || s > 6 || p < 1 || p > 6)
+        return shape;
+    shape.n = ((size_t)1 << s) - 1;
+    shape.q = 1u << p;
+    for (place = 0; place < shape.n; place++)
+        if (book->at[AT_G + place] != 0)
+            degree = place;
+    shape.k = shape.n - degree;
+    return shape;
+}
+
+static unsigned long products(const struct bytes *book, struct shape shape)
+{
+    unsigned long count = 0, weight = 0;
+    size_t place;
+    if (book->len < AT_RECORDS + RECORD)
+        return 0;
+    count = (book->len - AT_RECORDS) / RECORD;
+    for (place = 0; place < shape.n; place++)
+        weight += book->at[AT_RECORDS + 1 + place] != 0;
+    return count * weight * weight * shape.n * (book->at[AT_I] > LARGEST ? 0 : book->at[AT_I]);
+}
+
+/* --- The codebook of an input. --- */
+
+static uint8_t *record(struct bytes *book, unsigned number)
+{
+    size_t count = book->len < AT_RECORDS + RECORD ? 0 : (book->len - AT_RECORDS) / RECORD;
+    return count == 0 ? NULL : book->at + AT_RECORDS + RECORD * (number % count);
+}
+
+static void append(struct bytes *book, const uint8_t *from, size_t len)
+{
+    if (len > MOST_BOOK - book->len)
+        len = MOST_BOOK - book->len;
+    memmove(book->at + book->len, from, len);
+    book->len += len;
+}
+
+/* A dual word turned, so that its symbol at another place comes to place 0. It stays one where that symbol is 1. */
+static void turn(uint8_t *word, size_t n, size_t by)
+{
+    uint8_t turned[LARGEST];
+    size_t place;
+    for (place = 0; place < n; place++)
+        turned[place] = word[(place + by) % n];
+    memcpy(word, turned, n);
+}
+
+static void edit(struct bytes *book, struct input *input)
+{
+    static const uint8_t zeros[256];
+    static const uint8_t marked[] = {0, AT_S, AT_P, 3, AT_G, AT_G + 1, 67, AT_I, AT_D, AT_RECORDS, AT_RECORDS + 1};
+    static const uint8_t values[] = {0, 1, 2, 3, 4, 7, 63, 64};
+    const unsigned sort = next(input) % 11;
+    const size_t at = next_two(input);
+    const uint8_t value = next(input);
+    struct shape shape = shape_of(book);
+    uint8_t *one = record(book, (unsigned)(at & 255)), *other = record(book, (unsigned)(at >> 8));
+    uint8_t held[RECORD];
+    switch (sort) {
+    case 0:
+        if (book->len > 0)
+            book->at[at % book->len] = value;
+        break;
+    case 1:
+        if (book->len > 0)
+            book->at[at % book->len] ^= values[value % sizeof values];
+        break;
+    case 2:
+        if (book->len > marked[at % sizeof marked])
+            book->at[marked[at % sizeof marked]] = values[value % sizeof values];
+        break;
+    case 3:
+        if (value % 2 == 0)
+            book->len = at % (book->len + 1);
+        else
+            append(book, zeros, at % sizeof zeros);
+        break;
+    case 4:
+        if (book->len > AT_RECORDS + RECORD * (size_t)(value % 33))
+            book->len = AT_RECORDS + RECORD * (size_t)(value % 33);
+        break;
+    case 5: /* other I and D */
+        if (book->len > AT_D) {
+            book->at[AT_I] = (uint8_t)(1 + value % (at & 1 ? 63 : 3));
+            book->at[AT_D] = (uint8_t)(1 + (at >> 8) % shape.n);
+        }
+        break;
+    case 6: /* a dual word twice */
+        if (one != NULL)
+            append(book, one, RECORD);
+        break;
+    case 7: /* a dual word in the place of another */
+        if (one != NULL)
+            memmove(other, one, RECORD);
+        break;
+    case 8: /* two dual words exchanged */
+        if (one != NULL) {
+            memcpy(held, one, RECORD);
+            memmove(one, other, RECORD);
+            memcpy(other, held, RECORD);
+        }
+        break;
+    case 9: /* a dual word turned, or a turned one added */
+        if (one != NULL && value % 2 == 0)
+            append(book, one, RECORD);
+        one = record(book, value % 2 == 0 ? (unsigned)(book->len / RECORD) - 2 : (unsigned)(at & 255));
+        if (one != NULL)
+            turn(one + 1, shape.n, at >> 8);
+        break;
+    default: /* a dual word of another codebook */
+        append(book, record(&shelf[at % books], value), RECORD);
+    }
+}
+
+/* The first byte of an input that has the codebook's bytes. Any other: one of the shelf. */
+enum { WHOLE = 255 };
+
+static void make_book(struct bytes *book, struct input *input)
+{
+    unsigned edits;
+    if (next(input) == WHOLE) {
+        size_t place;
+        book->len = next_two(input) % (MOST_BOOK + 1);
+        for (place = 0; place < book->len; place++)
+            book->at[place] = next(input);
+    } else {
+        *book = shelf[next(input) % books];
+    }
+    for (edits = next(input) % 6; edits > 0; edits--)
+        edit(book, input);
+}
+
+/* --- Message, word and sizes of an input. --- */
+
+/* Mostly the exact size. */
+static size_t size(size_t exact, struct input *input)
+{
+    const uint8_t choice = next(input);
+    switch (choice % 16) {
+    case 12:
+        return exact == 0 ? 0 : exact - 1;
+    case 13:
+        return exact + 1;
+    case 14:
+        return choice / 16 * 10;
+    case 15:
+        return choice / 16 % 2 == 0 ? 0 : 2 * exact;
+    default:
+        return exact;
+    }
+}
+
+/* Makes the bytes as many as the size says. */
+static void resize(struct bytes *bytes, size_t len, struct input *input)
+{
+    while (bytes->len < len)
+        bytes->at[bytes->len++] = any(input);
+    bytes->len = len;
+}
+
+/* Symbols: mostly below q, drawn, or from the input. */
+static void make_symbols(struct bytes *symbols, size_t len, unsigned q, unsigned sort, struct input *input)
+{
+    size_t place;
+    symbols->len = len;
+    for (place = 0; place < len; place++) {
+        const uint8_t byte = sort % 2 == 0 ? draw(input) : any(input);
+        symbols->at[place] = (uint8_t)(sort / 2 % 8 == 7 ? byte : byte % q);
+    }
+    if (sort / 2 % 8 == 6 && len > 0)
+        symbols->at[any(input) % len] = (uint8_t)(q + draw(input) % (256 - q));
+}
+
+/* Mostly a code word with some errors, then symbols of any sort. */
+static void make_word(struct bytes *word, const struct bytes *book, struct shape shape, const struct bytes *message, struct input *input)
+{
+    const unsigned choice = next(input);
+    unsigned errors = choice / 8 % 8;
+    word->len = shape.n;
+    if (choice % 8 >= 6 || reference_code(book->at, book->len, message->at, message->len, word->at, word->len) != 0)
+        make_symbols(word, shape.n, shape.q, choice / 8, input);
+    else
+        for (; errors > 0; errors--) {
+            const uint8_t place = any(input);
+            word->at[place % shape.n] ^= (uint8_t)(1 + any(input) % (shape.q - 1));
+        }
+    if (choice / 64 == 3)
+        word->at[any(input) % shape.n] |= (uint8_t)shape.q;
+}
+
+/* --- Buffers between pages that may not be touched. --- */
+
+struct area {
+    uint8_t *pages;       /* ROOM bytes */
+    uint8_t image[ROOM];  /* what they are to hold after the call */
+    uint8_t *buffer;
+    size_t len;
+};
+
+static struct area book_area, input_area, output_area;
+
+static void stop(const char *why)
+{
+    perror(why);
+    exit(2);
+}
+
+static void make_area(struct area *area)
+{
+    const size_t beside = 4096;
+    uint8_t *all = mmap(NULL, beside + ROOM + beside, PROT_NONE, MAP_PRIVATE | MAP_ANONYMOUS, -1, 0);
+    if (all == MAP_FAILED || sysconf(_SC_PAGESIZE) != (long)beside)
+        stop("pages");
+    area->pages = all + beside;
+}
+
+static void allow(struct area *area, int what)
+{
+    if (mprotect(area->pages, ROOM, what) != 0)
+        stop("mprotect");
+}
+
+/* Lays bytes at the start or at the end of the area's pages; no symbol is as large as what fills the rest. */
+static void lay(struct area *area, const uint8_t *bytes, size_t len, int at_end)
+{
+    allow(area, PROT_READ | PROT_WRITE);
+    memset(area->image, 0xa5, ROOM);
+    memcpy(area->image + (at_end ? ROOM - len : 0), bytes, len);
+    memcpy(area->pages, area->image, ROOM);
+    area->buffer = area->pages + (at_end ? ROOM - len : 0);
+    area->len = len;
+}
+
+/* --- One call on both sides. --- */
+
+typedef uint32_t (*function)(const uint8_t *, size_t, const uint8_t *, size_t, uint8_t *, size_t);
+
+/* Check in the form of the others. */
+static uint32_t library_check(const uint8_t *book, size_t book_len, const uint8_t *input, size_t input_len, uint8_t *output, size_t output_len)
+{
+    (void)input, (void)input_len, (void)output, (void)output_len;
+    return shiftsum_check(book, book_len);
+}
+
+static uint32_t expected_check(const uint8_t *book, size_t book_len, const uint8_t *input, size_t input_len, uint8_t *output, size_t output_len)
+{
+    (void)input, (void)input_len, (void)output, (void)output_len;
+    return reference_check(book, book_len);
+}
+
+enum { CHECK, CODE, READ, DECODE, FUNCTIONS };
+
+static const struct {
+    const char *name;
+    function library, reference;
+    unsigned refusals; /* the largest number that it can return */
+} functions[FUNCTIONS] = {
+    {"check", library_check, expected_check, 8},
+    {"code", shiftsum_code, reference_code, 11},
+    {"read", shiftsum_read, reference_read, 12},
+    {"decode", shiftsum_decode, reference_decode, 11},
+};
+
+static void print_bytes(const char *what, const uint8_t *bytes, size_t len)
+{
+    size_t place;
+    fprintf(stderr, "%s (%zu bytes) ", what, len);
+    for (place = 0; place < len; place++)
+        fprintf(stderr, "%02x", (unsigned)bytes[place]);
+    fprintf(stderr, "\n");
+}
+
+#ifdef FAULTS
+/* The faults that a library could have. They are done as the archive would do them, unseen by the sanitizer. */
+__attribute__((no_sanitize("address"))) static uint32_t faulty(int which, uint32_t result)
+{
+    const char *fault = getenv("FAULT");
+    volatile uint8_t *book = book_area.buffer, *input = input_area.buffer, *output = output_area.buffer;
+    const char kind = which == DECODE && SHIFTSUM_REFUSAL(result) == 0 ? SHIFTSUM_KIND(result) : '-';
+    if (fault == NULL)
+        return result;
+    if (strcmp(fault, "refusal") == 0 && which == CHECK && result == 7)
+        return 8;
+    if (strcmp(fault, "count") == 0 && which == CHECK && SHIFTSUM_DUAL_WORDS(result) > 3)
+        return result - 0x100;
+    if (strcmp(fault, "kind") == 0 && kind == SHIFTSUM_SPENT)
+        return result - ((uint32_t)(SHIFTSUM_SPENT - SHIFTSUM_STALLED) << 24);
+    if (strcmp(fault, "rounds") == 0 && kind == SHIFTSUM_MENDED && SHIFTSUM_ROUNDS(result) > 1)
+        return result - 0x10000;
+    if (strcmp(fault, "changed") == 0 && kind == SHIFTSUM_MENDED)
+        return result + 0x100;
+    if (strcmp(fault, "answer") == 0 && kind == SHIFTSUM_STALLED)
+        output[output_area.len - 1] ^= 1;
+    /* A fault that few words show. */
+    if (strcmp(fault, "seldom") == 0 && kind == SHIFTSUM_MENDED && SHIFTSUM_ROUNDS(result) == 2 && book[AT_P] == 2)
+        output[output_area.len - 1] ^= 1;
+    if (strcmp(fault, "word") == 0 && which == CODE && result == 0)
+        output[0] ^= 1;
+    if (strcmp(fault, "refused") == 0 && which == READ && result == 12)
+        output[0] = output[0];
+    if (strcmp(fault, "book") == 0 && which == CODE && result == 0)
+        book[0] = 1;
+    if (strcmp(fault, "input") == 0 && kind == SHIFTSUM_CLEAN)
+        input[0] = input[0];
+    if (strcmp(fault, "beyond") == 0 && which == READ && result == 0)
+        output[output_area.len] = 0;
+    if (strcmp(fault, "before") == 0 && kind == SHIFTSUM_MENDED)
+        output[-1] = 0;
+    if (strcmp(fault, "overread") == 0 && kind == SHIFTSUM_MENDED && input[input_area.len] == 0)
+        return result;
+    return result;
+}
+#else
+#define faulty(which, result) (result)
+#endif
+
+/* How many calls of each function had each result, for decode the kinds; and those of decode that took two rounds or more. */
+static unsigned long calls[FUNCTIONS], accepted[FUNCTIONS], refused[FUNCTIONS][256], kinds[128], later[128], left_out;
+
+/* What libFuzzer takes as new ground beside the branches of this file: results not seen before, by the codebook's s and p. */
+enum { SEEN = 1 << 15 };
+__attribute__((section("__libfuzzer_extra_counters"))) static uint8_t seen[SEEN];
+
+static void count(int which, uint32_t result, const struct bytes *book)
+{
+    const unsigned number = SHIFTSUM_REFUSAL(result), kind = result >> 24 & 127;
+    unsigned mark = (unsigned)which;
+    calls[which]++;
+    if (number != 0) {
+        refused[which][number]++;
+        seen[mark * 16 + number % 16] = 1;
+        return;
+    }
+    accepted[which]++;
+    mark = mark * 64 + book->at[AT_S] % 8 * 8 + book->at[AT_P] % 8;
+    if (which == DECODE) {
+        unsigned rounds = SHIFTSUM_ROUNDS(result), changed = SHIFTSUM_CHANGED(result);
+        kinds[kind]++;
+        if (rounds > 1)
+            later[kind]++;
+        mark = mark * 4 + kind % 4;
+        mark = mark * 4 + (rounds < 4 ? rounds : 3);
+        mark = mark * 4 + (changed < 4 ? changed : 3);
+    }
+    seen[64 + mark % (SEEN - 64)] = 1;
+}
+
+/* Where library and second implementation differ, all that is needed to see why. */
+static void differs(int which, const char *what, uint32_t result, uint32_t expected, const struct bytes *book, const struct bytes *input,
+                    const struct bytes *held)
+{
+    const uint8_t *image = output_area.image + (output_area.buffer - output_area.pages);
+    fprintf(stderr, "differs: %s, %s\nlibrary  %#010x\nexpected %#010x\n", functions[which].name, what, (unsigned)result, (unsigned)expected);
+    print_bytes("library's output", output_area.buffer, output_area.len);
+    print_bytes("expected output", image, output_area.len);
+    print_bytes("output before the call", held->at, held->len);
+    print_bytes("input", input->at, input->len);
+    print_bytes("codebook", book->at, book->len);
+    abort();
+}
+
+static uint32_t compare(int which, const struct bytes *book, const struct bytes *input, const struct bytes *held, unsigned places)
+{
+    uint8_t *output;
+    uint32_t expected, result;
+    lay(&book_area, book->at, book->len, places & 1);
+    lay(&input_area, input->at, input->len, places & 2);
+    lay(&output_area, held->at, held->len, places & 4);
+    /* The second implementation is called with the image, which then is what the library is to leave. */
+    output = output_area.image + (output_area.buffer - output_area.pages);
+    expected = functions[which].reference(book->at, book->len, input->at, input->len, output, held->len);
+    allow(&book_area, PROT_READ);
+    allow(&input_area, PROT_READ);
+    if (SHIFTSUM_REFUSAL(expected) != 0)
+        allow(&output_area, PROT_READ);
+    result = functions[which].library(book_area.buffer, book->len, input_area.buffer, input->len, output_area.buffer, held->len);
+    result = faulty(which, result);
+    if (result != expected)
+        differs(which, "the result", result, expected, book, input, held);
+    if (memcmp(output_area.buffer, output, held->len) != 0)
+        differs(which, "the output", result, expected, book, input, held);
+    if (memcmp(output_area.pages, output_area.image, ROOM) != 0)
+        differs(which, "what lies beside the output", result, expected, book, input, held);
+    if (memcmp(book_area.pages, book_area.image, ROOM) != 0 || memcmp(input_area.pages, input_area.image, ROOM) != 0)
+        differs(which, "the codebook or the input after the call", result, expected, book, input, held);
+    count(which, result, book);
+    return result;
+}
+
+/* What an output holds before the call. */
+static void hold(struct bytes *held, size_t len, uint8_t first)
+{
+    size_t place;
+    held->len = len;
+    for (place = 0; place < len; place++)
+        held->at[place] = (uint8_t)(first + 7 * place);
+}
+
+int LLVMFuzzerTestOneInput(const uint8_t *data, size_t len)
+{
+    static struct bytes book, message, word, held;
+    struct input input = {data, len, 0};
+    struct shape shape;
+    unsigned places, more = 4;
+    uint8_t first;
+    make_book(&book, &input);
+    shape = shape_of(&book);
+    places = next(&input);
+    first = next(&input);
+    /* Sizes first, so that what an input has left goes to the symbols. */
+    const size_t message_len = size(shape.k, &input), word_len = size(shape.n, &input);
+    const size_t coded_len = size(shape.n, &input), read_len = size(shape.k, &input), answer_len = size(shape.n, &input);
+    input.drawn = (uint32_t)next_two(&input);
+    make_symbols(&message, shape.k, shape.q, next(&input), &input);
+    make_word(&word, &book, shape, &message, &input);
+    resize(&message, message_len, &input);
+    resize(&word, word_len, &input);
+
+    hold(&held, 0, 0);
+    compare(CHECK, &book, &held, &held, places);
+    hold(&held, coded_len, first);
+    compare(CODE, &book, &message, &held, places);
+    hold(&held, read_len, first);
+    compare(READ, &book, &word, &held, places >> 3);
+    hold(&held, answer_len, first);
+    if (products(&book, shape) > MOST_PRODUCTS)
+        left_out++;
+    else
+        while (SHIFTSUM_REFUSAL(compare(DECODE, &book, &word, &held, places >> 5)) == 0 && more > 0) {
+            /* One error more each time, since the words between few errors and many are the ones that take several rounds. */
+            const uint8_t place = draw(&input);
+            word.at[place % shape.n] ^= (uint8_t)(1 + draw(&input) % (shape.q - 1));
+            more--;
+        }
+    return 0;
+}
+
+/* The counts in a table, which the script reads; a dash where a function has no such result. */
+static void print_counts(void)
+{
+    static const char letters[] = "CMSX";
+    int which, column;
+    unsigned number;
+    printf("%-7s %9s %9s", "result", "calls", "accepted");
+    for (column = 0; column < 4; column++)
+        printf(" %7c", letters[column]);
+    for (number = 1; number <= 12; number++)
+        printf(" %6u", number);
+    printf("\n");
+    for (which = 0; which < FUNCTIONS; which++) {
+        printf("%-7s %9lu %9lu", functions[which].name, calls[which], accepted[which]);
+        for (column = 0; column < 4; column++)
+            if (which == DECODE)
+                printf(" %7lu", kinds[(unsigned)letters[column]]);
+            else
+                printf(" %7s", "-");
+        for (number = 1; number <= 12; number++)
+            if (number <= functions[which].refusals)
+                printf(" %6lu", refused[which][number]);
+            else
+                printf(" %6s", "-");
+        printf("\n");
+    }
+    printf("%-7s %9lu %9s %7s %7lu %7lu %7lu\n", "later", later['M'] + later['S'] + later['X'], "-", "-", later['M'], later['S'], later['X']);
+    printf("calls: %lu; decodes left out as too slow: %lu\n", calls[CHECK] + calls[CODE] + calls[READ] + calls[DECODE], left_out);
+    fflush(stdout);
+}
+
+/* Writes inputs to start from: for every codebook of the shelf one that names it, and for some one that has its bytes. */
+static void write_seeds(const char *folder)
+{
+    size_t number;
+    for (number = 0; number < 2 * books; number++) {
+        const struct bytes *book = &shelf[number / 2];
+        const uint8_t drawn = (uint8_t)(number / 2), whole[] = {WHOLE, (uint8_t)(book->len & 255), (uint8_t)(book->len >> 8)}, named[] = {0, drawn};
+        /* No edits, the exact sizes, and a code word with none to four errors. */
+        const uint8_t rest[] = {0, drawn, drawn, 0, 0, 0, 0, 0, drawn, 1, 0, (uint8_t)(drawn % 5 * 8)};
+        char name[4096];
+        FILE *file;
+        if (number % 2 == 1 && drawn % 8 != 0)
+            continue;
+        snprintf(name, sizeof name, "%s/%zu", folder, number);
+        file = fopen(name, "wb");
+        if (file == NULL)
+            stop(name);
+        if (number % 2 == 0) {
+            fwrite(named, 1, sizeof named, file);
+        } else {
+            fwrite(whole, 1, sizeof whole, file);
+            fwrite(book->at, 1, book->len, file);
+        }
+        fwrite(rest, 1, sizeof rest, file);
+        if (fclose(file) != 0)
+            stop(name);
+    }
+}
+
+/* With SEEDS in the environment only the seeds are written, to the folder it names. */
+int LLVMFuzzerInitialize(int *argc, char ***argv)
+{
+    (void)argc, (void)argv;
+    while (books < MOST_SHELF && (shelf[books].len = reference_shelf(books, shelf[books].at)) > 0)
+        books++;
+    if (getenv("SEEDS") != NULL) {
+        write_seeds(getenv("SEEDS"));
+        exit(0);
+    }
+    make_area(&book_area);
+    make_area(&input_area);
+    make_area(&output_area);
+    atexit(print_counts);
+    return 0;
+}

@@ -1,0 +1,124 @@
+#!/usr/bin/env python3
+"""Writes runs/NAME/stdin of every stored run. What the program must print, runs/NAME/stdout, is not made: it was found by hand from document 01."""
+
+import pathlib
+
+
+def word(digits, n=None):
+    """Symbols as document 01 writes them, a digit each."""
+    symbols = bytes(int(digit) for digit in digits)
+    return symbols.ljust(n or len(symbols), b"\0")
+
+
+def book(s, p, g, i, d, dual_words):
+    records = bytes([1, s, p, 2]) + g.ljust(63, b"\0") + bytes([3, i, d])
+    for dual_word in dual_words:
+        records += b"\4" + dual_word.ljust(63, b"\0")
+    return records
+
+
+def a(g="1101", i=3, d=1, dual_words=("1110100",), s=3, p=1):
+    return book(s, p, word(g), i, d, [word(b) for b in dual_words])
+
+
+def b():
+    return book(2, 2, word("111"), 3, 1, [word("110")])
+
+
+def c(d=2):
+    return book(2, 2, word("21"), 3, d, [word("132")])
+
+
+def with_byte(bytes_, at, byte):
+    return bytes_[:at] + bytes([byte]) + bytes_[at + 1 :]
+
+
+def length(count):
+    return count.to_bytes(2, "little")
+
+
+def stdin(book_, *words):
+    """The length field, the codebook and the words."""
+    return length(len(book_)) + book_ + b"".join(word(w) if isinstance(w, str) else w for w in words)
+
+
+EXAMPLE = ("1000000", "1100000", "1101000")
+
+# One symbol in all places, 63 of them: g is 1 + x + .. + x^62. The dual words have 1 at place 0 and at one of the places 1 to 32.
+ALIKE_63 = [bytes([1] + [0] * (place - 1) + [1]) for place in range(1, 33)]
+
+
+def alike_63(p):
+    return book(6, p, bytes([1] * 63), 3, 1, ALIKE_63)
+
+
+def wrong(symbol, place, error):
+    """63 times the symbol, with an error at one place."""
+    return with_byte(bytes([symbol] * 63), place, symbol ^ error)
+
+
+RECORD_A = a()[70:134]
+
+RUNS = {
+    # Document 01's example, and its cases that are decodes.
+    "example": stdin(a(), *EXAMPLE),
+    "case_8_d_6": stdin(a(d=6), "1000000"),
+    "case_9_spent": stdin(a(d=7), "1000000", "1101000"),
+    "cases_10_to_12": stdin(b(), "311", "120", "132"),
+    "case_13": stdin(c(), "100"),
+    "case_14_three_changed": stdin(c(d=3), "100"),
+    # All four kinds with one codebook: one symbol in all 7 places over GF(8).
+    "every_kind": stdin(book(3, 3, word("1111111"), 3, 4, [word("11")]), "5555555", "7667777", "0100230", "0001000"),
+    "rounds_of_two_digits": stdin(a(i=63, d=7), "1000000"),
+    "no_words": stdin(a()),
+    # The refusals of a codebook, by document 01's examples. What follows a refused one is not answered.
+    "refusal_1": stdin(a()[:133], *EXAMPLE),
+    "refusal_2": stdin(with_byte(a(), 0, 2), *EXAMPLE),
+    "refusal_3": stdin(a(p=2), *EXAMPLE),
+    "refusal_4": stdin(a(g="1201"), *EXAMPLE),
+    "refusal_5": stdin(a(g="101"), *EXAMPLE),
+    "refusal_6": stdin(a(d=8), *EXAMPLE),
+    "refusal_7": stdin(a(dual_words=["1101000"]), *EXAMPLE),
+    "refusal_8": stdin(a(dual_words=["1110100"] * 2), *EXAMPLE),
+    "refusals_3_6_and_8": stdin(a(p=2, d=8, dual_words=["1110100"] * 2), *EXAMPLE),
+    "refusals_6_and_8": stdin(a(d=8, dual_words=["1110100"] * 2), *EXAMPLE),
+    "refusal_8_no_words": stdin(a(dual_words=["1110100"] * 2)),
+    "refusal_2_cut_word": stdin(with_byte(a(), 67, 4), "1"),
+    # The length field.
+    "empty": b"",
+    "length_of_one_byte": length(134)[:1],
+    "length_alone": length(134),
+    "length_0": length(0) + a() + word(EXAMPLE[0]),
+    "length_0_alone": length(0),
+    "length_70": stdin(a()[:70], *EXAMPLE),
+    "length_135": stdin(a() + b"\0", *EXAMPLE),
+    "length_high_first": length(134)[::-1] + a() + word(EXAMPLE[0]),
+    "length_2118": stdin(a()[:70] + RECORD_A * 32, *EXAMPLE),
+    "length_2119": stdin(a()[:70] + RECORD_A * 32 + b"\0", *EXAMPLE),
+    "length_2182": stdin(a()[:70] + RECORD_A * 33, *EXAMPLE),
+    "length_2182_of_134_too": length(2182) + a() + word(EXAMPLE[0]),
+    "length_65535": stdin(a() + bytes(65535 - 134), *EXAMPLE),
+    # A codebook cut short, a wrong one too.
+    "cut_book_133": length(134) + a()[:133],
+    "cut_book_1": length(134) + a()[:1],
+    "cut_book_of_a_right_length": length(198) + a() + word(EXAMPLE[0]),
+    "cut_book_of_a_right_length_alone": length(198) + a(),
+    "cut_book_wrong_kind": length(134) + with_byte(a(), 0, 2)[:100],
+    # Words cut short.
+    "cut_word_1": stdin(a(), *EXAMPLE, "1"),
+    "cut_word_6": stdin(a(), *EXAMPLE, "110100"),
+    "cut_first_word": stdin(a(), "110100"),
+    "cut_word_bad_symbol": stdin(a(), "1101000", "222"),
+    # Bad symbols.
+    "bad_symbols": stdin(a(), "2000000", "1000000", "0000002", "9999999", "1100000", "1101000", b"\xff" * 7, "0001000"),
+    "bad_symbol_then_cut_word": stdin(a(), "1101000", "0200000", "110"),
+    # Words of 63 symbols, and a codebook of 2118 bytes.
+    "n_63_p_6": stdin(alike_63(6), b"\x3f" * 63, wrong(0x3F, 5, 0x15), wrong(0x00, 62, 0x2A), wrong(0x10, 62, 0x40 ^ 0x10), b"\x0a" * 62),
+    "n_63_p_1": stdin(alike_63(1), b"\1" * 63, wrong(1, 0, 1), wrong(0, 31, 1), wrong(0, 62, 2), b"\1"),
+    "n_63_all_changed": stdin(book(6, 6, word("11"), 3, 63, [b"\1" * 63]), wrong(0x00, 17, 0x2A), bytes(63)),
+}
+
+for name, data in RUNS.items():
+    folder = pathlib.Path(__file__).parent / "runs" / name
+    folder.mkdir(parents=True, exist_ok=True)
+    (folder / "stdin").write_bytes(data)
