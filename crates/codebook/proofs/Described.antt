@@ -3,10 +3,11 @@
 use mathlib.Core.Path.{_≡_, refl, sym, ap, _∙_, fun-ext}
 use mathlib.Core.List.{List}
 use Prim.Native.Nat.{ℕ, _+_, _*_, _^_, _≤_, _<_}
-use native.Mathlib.Nat.{mod-lt}
+use native.Mathlib.Nat.{mod-lt, le-trans, mul-le-mul}
 use native.Mathlib.Omega.{arith}
 use lib.Dec.{leb→le}
 use lib.ListN.{length}
+use lib.Pow.{pow-mono}
 use Rattle.range.specs.Table.{table, padded}
 use Rattle.range.proofs.Tests.{same-test, and-left, and-right}
 use Rattle.range.proofs.Table.{table-at}
@@ -106,6 +107,12 @@ module _ (bytes : List ℕ) (c : Params) (d : Describes bytes c) where
 
   pub params-matrix : {size : ℕ} → size ≡ fieldOf bytes .q * bookOf width bytes .n → size ≡ 2 ^ c .p * c .n
   params-matrix h = rw (d .p-is, d .n-is) h
+
+  -- 64 rows of 63 are enough for every matrix
+  pub params-room : 2 ^ c .p * c .n ≤ 4032
+  params-room =
+      let q : 2 ^ c .p ≤ 64 = pow-mono (params-sizes .p-high) in
+      le-trans (mul-le-mul q (params-sizes .n-high)) (omega arith)
 
   -- the generator, loaded from its body
   pub generator-loaded : {n : ℕ} {g : List ℕ} → n ≡ c .n → g ≡ padded 63 n (λ j. place bytes (4 + j)) → (j : ℕ) → place g j ≡ bookOf width bytes .generator j

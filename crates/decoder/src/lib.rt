@@ -7,7 +7,7 @@ ghost use lib.ListN.{length};
 ghost use Rattle.codebook.specs.Params.{Tabulated, Describes};
 ghost use Rattle.inputs.specs.Wrote.{Wrote};
 ghost use Rattle.decoder.specs.Refusals.{matrixInputRefusal, matrixRefusal, matrixBytes, decodeInputRefusal, decodeRefusal, decodeBytes};
-ghost use Rattle.decoder.specs.Decoded.{Decodes};
+ghost use Rattle.decoder.specs.Decoded.{letterOf, Decodes};
 use codebook::Params;
 use inputs::Done;
 
@@ -25,6 +25,18 @@ pub enum Kind {
 pub enum Decoded {
     Answered(Kind, u8, u8),
     Refused(u8),
+}
+
+// The kind's letter, as the program prints it.
+pub fn letter(kind: Kind) -> u8
+    ensures { λ r. ⌜ r ≡ letterOf kind ⌝ }
+{
+    match kind {
+        Kind::Clean => b'C',
+        Kind::Mended => b'M',
+        Kind::Stalled => b'S',
+        Kind::Spent => b'X',
+    }
 }
 
 // The size of a matrix, q * n.

@@ -1,11 +1,8 @@
--- The local matrix of a decode over the C boundary: large enough, and of the exact size.
+-- A decode over the C boundary, from what its calls ensure.
 -- Assumes nothing.
 use mathlib.Core.Path.{_≡_, ap, _∙_}
 use mathlib.Core.List.{List}
-use Prim.Native.Nat.{ℕ, _*_, _^_, _≤_}
-use native.Mathlib.Nat.{le-trans, mul-le-mul}
-use native.Mathlib.Omega.{arith}
-use lib.Pow.{pow-mono}
+use Prim.Native.Nat.{ℕ, _*_, _^_}
 use Rattle.field.specs.Answer.{answer}
 use Rattle.field.proofs.Refusals.{answers-refused}
 use Rattle.book.specs.Layout.{width}
@@ -14,19 +11,11 @@ use Rattle.book.specs.Inputs.{left}
 use Rattle.inputs.proofs.Wrote.{left-refused}
 use Rattle.codebook.specs.Params.{Describes}
 use Rattle.codebook.specs.declared.Params.{Params}
-use Rattle.codebook.proofs.Described.{params-sizes}
 use Rattle.decoder.specs.Refusals.{matrixSize, decodeInputRefusal, decodeRefusal, decodeBytes}
 use Rattle.decoder.specs.Decoded.{said, values, Decodes}
 use Rattle.decoder.specs.declared.Decoded.{Decoded}
 use Rattle.decoder.proofs.Answering.{decode-refused, decode-accepted}
 use Rattle.shiftsum.specs.Packed.{packed, DecodedInto}
-
--- 64 rows of 63 are enough
-pub room-enough : (bytes : List ℕ) (c : Params) → Describes bytes c → 2 ^ c .p * c .n ≤ 4032
-room-enough bytes c d =
-    let s = params-sizes bytes c d in
-    let q : 2 ^ c .p ≤ 64 = pow-mono (s .p-high) in
-    le-trans (mul-le-mul q (s .n-high)) (omega arith)
 
 module _ (bytes received : List ℕ) (room : ℕ) (word : List ℕ) where
   -- the book is refused

@@ -1,7 +1,6 @@
 // The C boundary: check, code, read and decode on numbers and byte slices. A `&[u8]` is a pointer and a length in C. The matrix is a local buffer.
 ghost use mathlib.Core.Path.{_≡_};
-ghost use mathlib.Core.List.{[]};
-ghost use Prim.Native.Nat.{_*_, _≤_};
+ghost use Prim.Native.Nat.{_*_};
 ghost use lib.ListN.{length};
 ghost use Rattle.field.specs.Answer.{answer};
 ghost use Rattle.inputs.specs.Wrote as wrote;
@@ -13,7 +12,6 @@ ghost use Rattle.decoder.specs.Decoded as decodes;
 ghost use Rattle.shiftsum.specs.Packed.{packed, Coded, DecodedInto};
 use codebook::Checked;
 use decoder::Decoded;
-use decoder::Kind;
 use inputs::Done;
 
 // The result of a check.
@@ -36,25 +34,13 @@ pub fn pack_done(r: Done) -> u32
     }
 }
 
-// The kind's letter, as the program prints it.
-fn letter(kind: Kind) -> u32
-    ensures { λ x. ⌜ (x ≡ decodes.letterOf kind) × (x ≤ 88) ⌝ }
-{
-    match kind {
-        Kind::Clean => 67,
-        Kind::Mended => 77,
-        Kind::Stalled => 83,
-        Kind::Spent => 88,
-    }
-}
-
 // The result of decode.
 fn pack_decoded(r: Decoded) -> u32
     ensures { λ x. ⌜ x ≡ packed (decodes.said r) ⌝ }
 {
     match r {
         Decoded::Answered(kind, rounds, changed) => {
-            256 * (changed as u32) + 65536 * (rounds as u32) + 16777216 * letter(kind)
+            256 * (changed as u32) + 65536 * (rounds as u32) + 16777216 * (decoder::letter(kind) as u32)
         }
         Decoded::Refused(number) => number as u32,
     }

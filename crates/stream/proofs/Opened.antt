@@ -1,20 +1,15 @@
--- An opening that is not refused, and the buffers for the words that follow it.
+-- An opening that is not refused.
 -- Assumes nothing.
 use mathlib.Core.Path.{_≡_, refl, sym, _∙_}
 use mathlib.Core.Bool.{_&&_}
 use mathlib.Core.List.{List}
-use Prim.Native.Nat.{ℕ, zero, suc, _*_, _^_, _≤_}
-use native.Mathlib.Nat.{le-trans, mul-le-mul}
+use Prim.Native.Nat.{ℕ, zero, suc}
 use native.Mathlib.Omega.{arith}
 use lib.Dec.{leb}
 use lib.ListN.{length}
-use lib.Pow.{pow-mono}
 use Rattle.book.specs.Layout.{width}
 use Rattle.book.specs.Conditions.{refusal}
 use Rattle.book.proofs.Sound.{passed}
-use Rattle.codebook.specs.declared.Params.{Params}
-use Rattle.codebook.specs.Params.{Describes}
-use Rattle.codebook.proofs.Described.{params-sizes}
 use Rattle.report.specs.Line.{refusalLine}
 use Rattle.stream.specs.Output.{openingRefusal, openingText}
 
@@ -33,10 +28,3 @@ pub opening-silent : (number : ℕ) → length (openingText number) ≡ 0 → nu
 unfolding refusalLine
 opening-silent zero e = refl
 opening-silent (suc number) e = absurd (omega arith)
-
--- 64 rows of 63 are enough for its matrix
-pub matrix-fits : (bytes : List ℕ) (c : Params) → Describes bytes c → 2 ^ c .p * c .n ≤ 4032
-matrix-fits bytes c d =
-    let s = params-sizes bytes c d in
-    let q : 2 ^ c .p ≤ 64 = pow-mono (s .p-high) in
-    le-trans (mul-le-mul q (s .n-high)) (omega arith)

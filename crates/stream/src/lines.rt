@@ -1,26 +1,11 @@
 // The lines of words, as text in a lent buffer.
-ghost use mathlib.Core.Path.{_≡_};
 ghost use Prim.Native.Nat.{_+_, _*_, _≤_};
 ghost use lib.ListN.{length};
-ghost use Rattle.decoder.specs.Decoded.{letterOf};
 ghost use Rattle.report.specs.Printed.{Printed};
 ghost use Rattle.stream.specs.Output.{wordLine, textOf};
 ghost use Rattle.stream.specs.Reads.{Ready};
 use codebook::Params;
 use decoder::Decoded;
-use decoder::Kind;
-
-// The kind's letter.
-fn letter(kind: Kind) -> u8
-    ensures { λ r. ⌜ r ≡ letterOf kind ⌝ }
-{
-    match kind {
-        Kind::Clean => b'C',
-        Kind::Mended => b'M',
-        Kind::Stalled => b'S',
-        Kind::Spent => b'X',
-    }
-}
 
 // The line of one word, from index `at` on. Answer and matrix are lent, so that no word clears them anew.
 pub fn put_word(
@@ -40,7 +25,7 @@ pub fn put_word(
     let said = decoder::decode_checked(book, c, t, word, answer, entries);
     match said {
         Decoded::Answered(kind, rounds, changed) => {
-            report::put_answer(out, at, letter(kind), rounds, changed, answer)
+            report::put_answer(out, at, decoder::letter(kind), rounds, changed, answer)
         }
         Decoded::Refused(number) => report::put_refusal(out, at, number),
     }

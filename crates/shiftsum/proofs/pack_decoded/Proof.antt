@@ -26,6 +26,9 @@ add-result c = search needs
 letter-requires : tie.Need-letter-requires
 letter-requires c κs = search needs
 
+cast-result-3 : tie.Need-cast-result-3
+cast-result-3 c = search needs
+
 mul-result-3 : tie.Need-mul-result-3
 mul-result-3 c = search needs
 
@@ -35,11 +38,11 @@ add-result-2 c = search needs
 enum-known-r-2 : tie.Need-enum-known-r-2
 enum-known-r-2 c = search needs
 
-cast-result-3 : tie.Need-cast-result-3
-cast-result-3 c = search needs
+cast-result-4 : tie.Need-cast-result-4
+cast-result-4 c = search needs
 
 returns : tie.Need-returns
-returns c = rw (c .before .before .r .given .1) (omega (arith, c .letter .ensures .0))
+returns c = rw (c .before .before .r .given .1) (omega (arith, c .letter .ensures))
 
 returns-2 : tie.Need-returns-2
 returns-2 c = search needs
@@ -55,9 +58,10 @@ pack-decoded-spec =
     mul-result-2
     add-result
     letter-requires
+    cast-result-3
     mul-result-3
     add-result-2
     enum-known-r-2
-    cast-result-3
+    cast-result-4
     returns
     returns-2)

@@ -5,8 +5,8 @@ use Prim.Native.Nat.{_≤_}
 use native.Mathlib.Omega.{arith}
 use lib.ListN.{length, take}
 use lib.Seq.{length-take-le}
-use Rattle.codebook.proofs.Described.{params-sizes}
-use Rattle.shiftsum.proofs.Room.{room-enough, into-refused, into-decoded}
+use Rattle.codebook.proofs.Described.{params-sizes, params-room}
+use Rattle.shiftsum.proofs.Room.{into-refused, into-decoded}
 use borrow.Author.Needs.{needs}
 use Rattle.shiftsum.proofs.shiftsum_decode.Statement.{statement}
 use Rattle.shiftsum.proofs.shiftsum_decode.Tie as tie
@@ -43,7 +43,7 @@ slice-aggregate-decode-checked c = search needs
 
 -- the matrix fits its room
 fits : (c : tie.After-matrix-room) → c .before .matrix-size .result ≤ length (c .matrix-room .result)
-fits c = omega (arith, c .matrix-room .ensures, c .before .matrix-size .ensures, room-enough _ _ (c .before .before .before .before .before .before .describe .ensures))
+fits c = omega (arith, c .matrix-room .ensures, c .before .matrix-size .ensures, params-room _ _ (c .before .before .before .before .before .before .describe .ensures))
 
 array-borrow-prefix-room : tie.Need-array-borrow-prefix-room
 array-borrow-prefix-room c = fits (c .before .before)

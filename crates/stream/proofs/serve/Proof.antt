@@ -5,8 +5,7 @@ use Prim.Native.Nat.{_*_, _≤_}
 use native.Mathlib.Omega.{arith}
 use lib.ListN.{length, take}
 use lib.Seq.{length-take-le}
-use Rattle.codebook.proofs.Described.{params-sizes}
-use Rattle.stream.proofs.Opened.{matrix-fits}
+use Rattle.codebook.proofs.Described.{params-sizes, params-room}
 use borrow.Author.Needs.{needs}
 use Rattle.stream.proofs.serve.Statement.{statement}
 use Rattle.stream.proofs.serve.Tie as tie
@@ -31,7 +30,7 @@ words-fit : (c : tie.After-matrix-size) → c .before .before .before .before .b
 words-fit c = params-sizes _ _ (c .before .before .before .before .before .describe .ensures) .n-high
 
 entries-fit : (c : tie.After-matrix-size) → c .matrix-size .result ≤ 4032
-entries-fit c = omega (arith, matrix-fits _ _ (c .before .before .before .before .before .describe .ensures), c .matrix-size .ensures)
+entries-fit c = omega (arith, params-room _ _ (c .before .before .before .before .before .describe .ensures), c .matrix-size .ensures)
 
 mul-size : tie.Need-mul-size
 mul-size c = omega (arith, words-fit c)
