@@ -53,19 +53,18 @@ pub fn add(n: usize, a: [u8; 63], b: [u8; 63]) -> [u8; 63]
     w
 }
 
-// Whether the places below n are all zero.
+// Whether the places below n are all zero: all are read, with no branch.
 pub fn is_zero(n: usize, w: [u8; 63]) -> bool
     requires { ⌜ n ≤ 63 ⌝ }
     ensures { λ r. ⌜ r ≡ all n (λ j. eqb (place w j) 0) ⌝ }
 {
+    let mut ok = true;
     let mut j = 0;
     while j < n {
-        if w[j] != 0 {
-            return false;
-        }
+        ok &= w[j] == 0;
         j += 1;
     }
-    true
+    ok
 }
 
 // The count of nonzero symbols.
@@ -82,18 +81,18 @@ pub fn weight(n: usize, w: [u8; 63]) -> usize
     count
 }
 
-// The count of places where two words differ.
+// The count of places where two words differ, in a byte, which is wide enough and makes the widest vector steps.
 pub fn distance(n: usize, a: [u8; 63], b: [u8; 63]) -> usize
     requires { ⌜ n ≤ 63 ⌝ }
     ensures { λ r. ⌜ (r ≡ distance n (place a) (place b)) × (r ≤ n) ⌝ }
 {
-    let mut count: usize = 0;
+    let mut count: u8 = 0;
     let mut j = 0;
     while j < n {
-        count += (a[j] != b[j]) as usize;
+        count += (a[j] != b[j]) as u8;
         j += 1;
     }
-    count
+    count as usize
 }
 
 // The word turned by one place: x times it.

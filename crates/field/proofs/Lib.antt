@@ -5,5 +5,6 @@ pub mod Computed
 pub mod First
 pub mod Power
 pub mod Gf
+pub mod Doubling
 pub mod Masks
 pub mod Refusals

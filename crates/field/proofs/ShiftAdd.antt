@@ -53,7 +53,8 @@ module _ (p : ℕ) where
   pub shiftAdd-zero-right : (k a : ℕ) → shiftAdd p k a 0 ≡ 0
   shiftAdd-zero-right k a = linear-zero (shiftAdd p k a) (shiftAdd-xor-right k a)
 
-  shiftAdd-timesX : (k a b : ℕ) → shiftAdd p k (timesX p a) b ≡ timesX p (shiftAdd p k a b)
+  -- multiplying by x and multiplying by b may change places
+  pub shiftAdd-timesX : (k a b : ℕ) → shiftAdd p k (timesX p a) b ≡ timesX p (shiftAdd p k a b)
   unfolding shiftAdd
   shiftAdd-timesX zero a b = sym (linear-zero (timesX p) timesX-xor)
   shiftAdd-timesX (suc k) a b =

@@ -62,6 +62,14 @@ pub fn mul(p: u8, a: u8, b: u8) -> u8
     total
 }
 
+// A symbol times x.
+pub fn double(p: u8, a: u8) -> u8
+    requires { ⌜ (1 ≤ p) × (p ≤ 6) × (a < 2 ^ p) ⌝ }
+    ensures { λ r. ⌜ (r ≡ timesX p a) × (r < 2 ^ p) ⌝ }
+{
+    times_x(p, polynomial(p), a)
+}
+
 // The inverse of a nonzero symbol: its power 2^p - 2, which is the product of its squares from the second power up.
 pub fn inv(p: u8, a: u8) -> u8
     requires { ⌜ (1 ≤ p) × (p ≤ 6) × (0 < a) × (a < 2 ^ p) ⌝ }

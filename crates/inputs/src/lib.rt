@@ -8,18 +8,17 @@ pub enum Done {
     Refused(u8),
 }
 
-// Whether every symbol of the input is below q.
+// Whether every symbol of the input is below q: all are read, with no branch, so that the loop is vector steps.
 fn symbols_ok(q: u8, input: &[u8]) -> bool
     ensures { λ r. ⌜ r ≡ inputOk q (now (input .entry)) ⌝ }
 {
+    let mut ok = true;
     let mut j = 0;
     while j < input.len() {
-        if q <= input[j] {
-            return false;
-        }
+        ok &= input[j] < q;
         j += 1;
     }
-    true
+    ok
 }
 
 // The first number from 9 to 11 that applies to an input of which `wanted` symbols are asked, or 0.

@@ -3,23 +3,27 @@
 use mathlib.Core.Path.{_≡_, refl, sym, ap, _∙_, subst}
 use mathlib.Core.Logic.{⊎-elim}
 use mathlib.Core.List.{List}
-use Prim.Native.Nat.{ℕ, _+_, _-_, _*_, _%_, _^_, _≤_, _<_, zero-le}
+use Prim.Native.Nat.{ℕ, _+_, _-_, _*_, _%_, _^_, _≤_, _<_}
 use native.Mathlib.Nat.{mod-lt, not-suc-le-zero, eq-or-lt-of-le, le-of-suc-le-suc}
 use native.Mathlib.Numerals.{add-one}
-use native.Mathlib.Decide.{decLt}
+use native.Mathlib.Decide.{ℕ-discrete, decLt}
 use native.Mathlib.Omega.{arith}
-use lib.ListN.{length, List·getD-eq-default}
+use lib.Bits.{bitXor}
+use lib.ListN.{length, set, length-set, List·getD-eq-default}
+use lib.Seq.{getD-set-same, getD-set-other}
 use lib.Pow.{pow-pos}
 use Rattle.range.specs.Table.{table}
 use Rattle.range.proofs.Table.{table-at}
 use Rattle.field.specs.Field.{FieldLaws}
-use Rattle.field.specs.Symbols.{product, gf}
-use Rattle.field.proofs.Laws.{one-mul}
+use Rattle.field.specs.Symbols.{timesX, product, gf}
+use Rattle.field.proofs.Xor.{digit}
+use Rattle.field.proofs.Laws.{zero-mul, one-mul}
 use Rattle.field.proofs.Gf.{gf-laws}
+use Rattle.field.proofs.Doubling.{product-double, product-next}
 use Rattle.word.specs.Word.{at}
 use Rattle.word.proofs.Place.{at-lt, at-period, at-mod}
 use Rattle.array.specs.Stored.{place, Sizes, Stored}
-use Rattle.tables.specs.Multiples.{Twofold, entry, wordOf, RowPut, Tabled}
+use Rattle.tables.specs.Multiples.{Twofold, entry, wordOf, Begun, RowStored, RowPut, Tabled}
 use Rattle.tables.proofs.Window.{Window}
 
 -- a word copied to place n of itself is there twice over
@@ -46,8 +50,41 @@ twofold {p} {n} {s} {w} {d₀} {d} small fits long st e h =
     symbol j l (no b) (no a) =
         subst (λ (x : ℕ). x < 2 ^ p) (sym (h .high j (omega arith) ∙ copied j l ∙ List·getD-eq-default w 0 (omega arith))) (pow-pos p)
 
+-- ---- rows 0 and 1
+
+pub begun-none : (d t : List ℕ) → Begun 0 d t t
+begun-none d t = record { long = refl; zeros = λ j l. absurd (not-suc-le-zero l); word = λ j l. absurd (not-suc-le-zero l) }
+
+-- there is as much room after a write as before
+pub begun-room : {n m : ℕ} {d t₀ t : List ℕ} (k v : ℕ) → Begun n d t₀ t → m < length t₀ → m < length (set t k v)
+begun-room {m = m} {t = t} k v h l = subst (λ (x : ℕ). m < x) (sym (length-set t k v ∙ h .long)) l
+
+pub begun-more : {n : ℕ} {d t₀ t : List ℕ} (v w : ℕ) → n < 128 → 256 ≤ length t₀ → v ≡ 0 → w ≡ place d n → Begun n d t₀ t
+    → Begun (n + 1) d t₀ (set (set t n v) (128 + n) w)
+begun-more {n} {d} {t₀} {t} v w small room ez ew h =
+    record {
+      long = length-set t₁ (128 + n) w ∙ length-set t n v ∙ h .long;
+      zeros = λ j l. getD-set-other t₁ (128 + n) j w 0 (omega arith) ∙ zeros j (ℕ-discrete j n) l;
+      word = λ j l. word j (ℕ-discrete j n) l;
+    }
+  where
+    -- the list after the first write
+    t₁ : List ℕ
+    t₁ = set t n v
+
+    zeros : (j : ℕ) → Dec (j ≡ n) → j < n + 1 → place t₁ j ≡ 0
+    zeros j (yes e) l = ap (place t₁) e ∙ getD-set-same t n v 0 (omega (arith, h .long)) ∙ ez
+    zeros j (no e) l = getD-set-other t n j v 0 e ∙ h .zeros j (omega arith)
+
+    word : (j : ℕ) → Dec (j ≡ n) → j < n + 1 → place (set t₁ (128 + n) w) (128 + j) ≡ place d j
+    word j (yes e) l =
+        ap (λ (x : ℕ). place (set t₁ (128 + n) w) (128 + x)) e ∙ getD-set-same t₁ (128 + n) w 0 (begun-room n v h (omega arith)) ∙ ew ∙ ap (place d) (sym e)
+    word j (no e) l = getD-set-other t₁ (128 + n) (128 + j) w 0 (omega arith) ∙ getD-set-other t n (128 + j) v 0 (omega arith) ∙ h .word j (omega arith)
+
+-- ---- the other rows
+
 -- a row written whole
-pub row-put : {p c from j : ℕ} {d t₀ t : List ℕ} → from ≡ 128 * c → j ≡ 128 → Window from j (λ j. product p c (place d j)) t₀ t → RowPut p c d t₀ t
+pub row-put : {c from j : ℕ} {f : ℕ → ℕ} {t₀ t : List ℕ} → from ≡ 128 * c → j ≡ 128 → Window from j f t₀ t → RowPut c f t₀ t
 row-put {t₀ = t₀} {t = t} e s h =
     record {
       long = h .long;
@@ -56,31 +93,52 @@ row-put {t₀ = t₀} {t = t} e s h =
       high = λ k l. h .high k (omega arith);
     }
 
--- the rows below c are put
-pub record Rows (p c : ℕ) (d t₀ t : List ℕ) : Type 0 where
-  pub within : c ≤ 2 ^ p
-  pub long : length t ≡ length t₀
+-- the rows below c are the multiples of d
+pub record Rows (p c : ℕ) (d t : List ℕ) : Type 0 where
   pub rows : (b j : ℕ) → b < c → j < 128 → entry t b j ≡ product p b (place d j)
 
-pub rows-none : (p : ℕ) (d t : List ℕ) → Rows p 0 d t t
-rows-none p d t = record { within = zero-le; long = refl; rows = λ b j l. absurd (not-suc-le-zero l) }
+rows-more : {p c : ℕ} {f : ℕ → ℕ} {d t t′ : List ℕ} → ((j : ℕ) → j < 128 → f j ≡ product p c (place d j)) → Rows p c d t → RowPut c f t t′
+    → Rows p (c + 1) d t′
+rows-more {p} {c} {f} {d} {t} {t′} e h put =
+    record {
+      rows = λ b j l s. ⊎-elim
+          (λ q. subst (λ (b : ℕ). entry t′ b j ≡ product p b (place d j)) (sym q) (put .row j s ∙ e j s))
+          (λ l. put .low (128 * b + j) (omega arith) ∙ h .rows b j l s)
+          (eq-or-lt-of-le (le-of-suc-le-suc (subst (λ (m : ℕ). b < m) (add-one c) l)));
+    }
 
-module _ {p c : ℕ} {d t₀ t : List ℕ} (h : Rows p c d t₀ t) where
-  pub rows-more : {t′ : List ℕ} → c < 2 ^ p → RowPut p c d t t′ → Rows p (c + 1) d t₀ t′
-  rows-more {t′} l put =
-      record {
-        within = omega arith;
-        long = put .long ∙ h .long;
-        rows = λ b j d′ s. ⊎-elim
-            (λ q. subst (λ (b : ℕ). entry t′ b j ≡ product p b (place d j)) (sym q) (put .row j s))
-            (λ d′. put .low (128 * b + j) (omega arith) ∙ h .rows b j d′ s)
-            (eq-or-lt-of-le (le-of-suc-le-suc (subst (λ (m : ℕ). b < m) (add-one c) d′)));
-      }
+module _ {p n : ℕ} {w d : List ℕ} (s : Sizes p n) (two : Twofold p n w d) where
+  laws : FieldLaws (gf p)
+  laws = gf-laws p (s .p-low) (s .p-high)
 
-  module _ {n : ℕ} {w : List ℕ} (s : Sizes p n) (two : Twofold p n w d) (l : 2 ^ p ≤ c) where
-    laws : FieldLaws (gf p)
-    laws = gf-laws p (s .p-low) (s .p-high)
+  pub rows-first : {t₀ t : List ℕ} → Begun 128 d t₀ t → Rows p 2 d t
+  rows-first {t = t} h = record { rows = first }
+    where
+      first : (b j : ℕ) → b < 2 → j < 128 → entry t b j ≡ product p b (place d j)
+      first b j b<2 l =
+          digit (λ b. entry t b j ≡ product p b (place d j)) (ap (place t) (omega arith) ∙ h .zeros j l ∙ sym (zero-mul (gf p) laws (place d j)))
+          (h .word j l ∙ sym (one-mul (gf p) laws (place d j) (two .symbols .symbol j l))) b b<2
 
+  module _ {c : ℕ} {t : List ℕ} (pos : 1 ≤ c) (h : Rows p (2 * c) d t) where
+    pub rows-stored : RowStored p c t
+    rows-stored =
+        record { symbol = λ j l. subst (λ (x : ℕ). x < 2 ^ p) (sym (h .rows c j (omega arith) l)) (laws .mul-below c (place d j)) }
+
+    -- the two rows made from row c
+    pub rows-double : {t₁ t₂ : List ℕ} → 2 * c < 2 ^ p → RowPut (2 * c) (λ j. timesX p (entry t c j)) t t₁
+        → RowPut (2 * c + 1) (λ j. bitXor (entry t₁ (2 * c) j) (place d j)) t₁ t₂ → Rows p (2 * (c + 1)) d t₂
+    rows-double {t₁} {t₂} l put₁ put₂ =
+        subst (λ (m : ℕ). Rows p m d t₂) (omega arith)
+        (rows-more
+        (λ j k. ap (λ (x : ℕ). bitXor x (place d j)) (even .rows (2 * c) j (omega arith) k)
+        ∙ sym (product-next p c _ (s .p-low) (s .p-high) (two .symbols .symbol j k)))
+        even
+        put₂)
+      where
+        even : Rows p (2 * c + 1) d t₁
+        even = rows-more (λ j k. ap (timesX p) (h .rows c j (omega arith) k) ∙ sym (product-double p c _ l)) h put₁
+
+  module _ {c : ℕ} {t : List ℕ} (h : Rows p c d t) (l : 2 ^ p ≤ c) where
     row : (b j : ℕ) → b < 2 ^ p → j < 128 → entry t b j ≡ product p b (place d j)
     row b j d′ k = h .rows b j (omega arith) k
 
@@ -92,12 +150,12 @@ module _ {p c : ℕ} {d t₀ t : List ℕ} (h : Rows p c d t₀ t) where
         row 1 (j % n) (laws .one-below) (omega (arith, s .n-high)) ∙ one-mul (gf p) laws _ (two .symbols .symbol _ (omega (arith, s .n-high)))
         ∙ two .places (j % n) (omega arith) ∙ at-mod n w j
 
-    pub rows-end : 128 * 2 ^ p ≤ length t₀ → Tabled p n w t₀ t
-    rows-end size =
+    pub rows-end : {t₀ : List ℕ} → 128 * 2 ^ p ≤ length t₀ → length t ≡ length t₀ → Tabled p n w t₀ t
+    rows-end size long =
         record {
-          long = h .long;
+          long = long;
           multiples = record {
-            size = subst (λ (x : ℕ). 128 * 2 ^ p ≤ x) (sym (h .long)) size;
+            size = subst (λ (x : ℕ). 128 * 2 ^ p ≤ x) (sym long) size;
             symbol = λ b j d′ k. subst (λ (x : ℕ). x < 2 ^ p) (sym (row b j d′ k)) (laws .mul-below b (place d j));
             multiple = λ b j d′ k. row b j d′ (omega (arith, s .n-high)) ∙ ap (product p b) (two .places j k ∙ sym (word j));
           };

@@ -28,10 +28,20 @@ pub record Multiples (p n : ℕ) (t : List ℕ) : Type 0 where
   pub symbol : (c j : ℕ) → c < 2 ^ p → j < 128 → entry t c j < 2 ^ p
   pub multiple : (c j : ℕ) → c < 2 ^ p → j < n + n → entry t c j ≡ symbols.product p c (wordOf n t j)
 
--- row c of t became c times the symbols of d; the places below it and above it, and the length, are as before
-pub record RowPut (p c : ℕ) (d t₀ t : List ℕ) : Type 0 where
+-- the first n places of row 0 of t became zero, and those of row 1 became d's; the length is as before
+pub record Begun (n : ℕ) (d t₀ t : List ℕ) : Type 0 where
   pub long : length t ≡ length t₀
-  pub row : (j : ℕ) → j < 128 → entry t c j ≡ symbols.product p c (place d j)
+  pub zeros : (j : ℕ) → j < n → place t j ≡ 0
+  pub word : (j : ℕ) → j < n → entry t 1 j ≡ place d j
+
+-- row c of t has symbols only
+pub record RowStored (p c : ℕ) (t : List ℕ) : Type 0 where
+  pub symbol : (j : ℕ) → j < 128 → entry t c j < 2 ^ p
+
+-- row c of t became f's values; the places below it and above it, and the length, are as before
+pub record RowPut (c : ℕ) (f : ℕ → ℕ) (t₀ t : List ℕ) : Type 0 where
+  pub long : length t ≡ length t₀
+  pub row : (j : ℕ) → j < 128 → entry t c j ≡ f j
   pub low : (k : ℕ) → k < 128 * c → place t k ≡ place t₀ k
   pub high : (k : ℕ) → 128 * c + 128 ≤ k → place t k ≡ place t₀ k
 

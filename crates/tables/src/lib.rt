@@ -7,9 +7,10 @@ ghost use lib.Dec.{eqb};
 ghost use lib.ListN.{length};
 ghost use Rattle.range.specs.Fold.{all};
 ghost use Rattle.range.specs.Table.{table, padded};
+ghost use Rattle.field.specs.Symbols.{timesX};
 ghost use Rattle.word.specs.Word.{at};
 ghost use Rattle.array.specs.Stored.{place, Sizes, Stored};
-ghost use Rattle.tables.specs.Multiples.{Twofold, wordOf, Multiples, RowPut, Tabled, Multiplied};
+ghost use Rattle.tables.specs.Multiples.{Twofold, entry, wordOf, Multiples, Begun, RowStored, RowPut, Tabled, Multiplied};
 ghost use Rattle.tables.specs.Support.{Lists};
 
 pub mod division;
@@ -84,29 +85,59 @@ pub fn doubled(p: u8, n: usize, w: [u8; 64]) -> [u8; 128]
     out
 }
 
-// Row c of a table: c times the symbols of d.
-fn put_multiple(p: u8, c: u8, d: [u8; 128], t: &mut [u8])
-    requires { ⌜ (1 ≤ p) × (p ≤ 6) × (c < 2 ^ p) × Stored p 128 d × (128 * 2 ^ p ≤ length (now t)) ⌝ }
-    ensures { λ _. ⌜ RowPut p c d (now (t .entry)) (now (t .exit)) ⌝ }
+// Rows 0 and 1 of a table: zero, and the word d.
+fn put_word(d: [u8; 128], t: &mut [u8])
+    requires { ⌜ 256 ≤ length (now t) ⌝ }
+    ensures { λ _. ⌜ Begun 128 d (now (t .entry)) (now (t .exit)) ⌝ }
 {
-    let from = 128 * wide(c);
     let mut j = 0;
     while j < 128 {
-        t[from + j] = field::mul(p, c, d[j]);
+        t[j] = 0;
+        t[128 + j] = d[j];
         j += 1;
     }
 }
 
-// Makes the table of the multiples of a word.
+// Row 2c of a table: x times row c.
+fn put_double(p: u8, c: usize, t: &mut [u8])
+    requires { ⌜ (1 ≤ p) × (p ≤ 6) × (1 ≤ c) × (256 * c + 128 ≤ length (now t)) × RowStored p c (now t) ⌝ }
+    ensures { λ _. ⌜ RowPut (2 * c) (λ j. timesX p (entry (now (t .entry)) c j)) (now (t .entry)) (now (t .exit)) ⌝ }
+{
+    let from = 128 * c;
+    let to = 256 * c;
+    let mut j = 0;
+    while j < 128 {
+        t[to + j] = field::double(p, t[from + j]);
+        j += 1;
+    }
+}
+
+// Row 2c + 1 of a table: the word d added to row 2c.
+fn put_next(c: usize, d: [u8; 128], t: &mut [u8])
+    requires { ⌜ 256 * c + 256 ≤ length (now t) ⌝ }
+    ensures { λ _. ⌜ RowPut (2 * c + 1) (λ j. bitXor (entry (now (t .entry)) (2 * c) j) (place d j)) (now (t .entry)) (now (t .exit)) ⌝ }
+{
+    let from = 256 * c;
+    let to = from + 128;
+    let mut j = 0;
+    while j < 128 {
+        t[to + j] = t[from + j] ^ d[j];
+        j += 1;
+    }
+}
+
+// Makes the table of the multiples of a word: rows 0 and 1, and then two rows from each row c.
 pub fn tabulate(p: u8, n: usize, w: [u8; 64], t: &mut [u8])
     requires { ⌜ Sizes p n × Stored p 64 w × (128 * 2 ^ p ≤ length (now t)) ⌝ }
     ensures { λ _. ⌜ Tabled p n w (now (t .entry)) (now (t .exit)) ⌝ }
 {
     let d = doubled(p, n, w);
-    let q = field::order(p);
-    let mut c: u8 = 0;
-    while c < q {
-        put_multiple(p, c, d, t);
+    let q = wide(field::order(p));
+    put_word(d, t);
+    let mut c: usize = 1;
+    while 2 * c < q {
+        put_double(p, c, t);
+        put_next(c, d, t);
         c += 1;
     }
 }

@@ -7,7 +7,7 @@ use mathlib.Core.Bool.{not}
 use borrow.Author.Needs.{needs}
 use Rattle.word.specs.Word.{distance}
 use Rattle.array.specs.Stored.{place}
-use Rattle.array.proofs.Counted.{Counted, counted-none, counted-more, counted-fits, counted-end}
+use Rattle.array.proofs.Counted.{Counted, counted-none, counted-more, counted-byte, counted-end}
 use Rattle.array.proofs.distance.Statement.{statement}
 use Rattle.array.proofs.distance.Tie as tie
 
@@ -30,7 +30,7 @@ cast-count : tie.Need-cast-count Inv-loop μ-loop
 cast-count c = search needs
 
 add-count : tie.Need-add-count Inv-loop μ-loop
-add-count c = search (needs, counted-fits (c .before .loop .inv))
+add-count c = search (needs, counted-byte (c .before .loop .inv) (search needs) (omega (arith, c .before .before .pre)))
 
 add-j : tie.Need-add-j Inv-loop μ-loop
 add-j c = search needs
@@ -40,6 +40,9 @@ loop-less c = search needs
 
 loop-again : tie.Need-loop-again Inv-loop μ-loop
 loop-again c = counted-more (c .before .loop .inv) (omega arith)
+
+cast-result : tie.Need-cast-result Inv-loop μ-loop
+cast-result c = omega (arith, counted-end (c .before .loop .inv) (omega arith) .1, c .before .before .pre)
 
 returns : tie.Need-returns Inv-loop μ-loop
 unfolding distance
@@ -59,4 +62,5 @@ distance-spec =
     add-j
     loop-less
     loop-again
+    cast-result
     returns)

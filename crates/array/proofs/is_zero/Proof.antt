@@ -1,32 +1,28 @@
--- `array::is_zero` meets its contract. The invariant: the places below j are 0.
+-- `array::is_zero` meets its contract. The invariant: `ok` tells whether the places below j are 0.
 -- Assumes nothing.
 use Prim.Native.Nat.{_-_, _≤_}
-use mathlib.Core.Path.{_≡_, sym}
-use mathlib.Core.Bool.{true}
+use mathlib.Core.Path.{_≡_, refl, sym}
+use mathlib.Core.Bool.{true, _&&_}
 use native.Mathlib.Omega.{arith}
-use borrow.Author.Tests.{eq-eqb, ne-eqb}
 use lib.Dec.{eqb}
 use Rattle.range.specs.Fold.{all}
-use Rattle.range.proofs.Loop.{fold-none, all-step, all-fails}
+use Rattle.range.proofs.Loop.{fold-none, fold-step}
 use Rattle.array.specs.Stored.{place}
 use borrow.Author.Needs.{needs}
 use Rattle.array.proofs.is_zero.Statement.{statement}
 use Rattle.array.proofs.is_zero.Tie as tie
 
 abbrev Inv-loop : tie.InvT-loop
-Inv-loop n w j₀ j = (j ≤ n) × (all j (λ j. eqb (place w j) 0) ≡ true)
+Inv-loop n w ok₀ j₀ ok j = (j ≤ n) × (ok ≡ all j (λ j. eqb (place w j) 0))
 
 abbrev μ-loop : tie.MeasureT-loop
-μ-loop n w j₀ j = n - j
+μ-loop n w ok₀ j₀ ok j = n - j
 
 loop-holds : tie.Need-loop-holds Inv-loop μ-loop
-loop-holds c = (search needs, fold-none _ _ _)
+loop-holds c = (search needs, sym (fold-none _ _ _))
 
-array-read-if1 : tie.Need-array-read-if1 Inv-loop μ-loop
-array-read-if1 c = search needs
-
-returns : tie.Need-returns Inv-loop μ-loop
-returns c = sym (all-fails _ _ _ (c .before .loop-test .taken) (ne-eqb _ _ (c .if1 .taken)))
+array-read-ok : tie.Need-array-read-ok Inv-loop μ-loop
+array-read-ok c = search needs
 
 add-j : tie.Need-add-j Inv-loop μ-loop
 add-j c = search needs
@@ -35,21 +31,10 @@ loop-less : tie.Need-loop-less Inv-loop μ-loop
 loop-less c = search needs
 
 loop-again : tie.Need-loop-again Inv-loop μ-loop
-loop-again c = (search needs, all-step _ _ (c .before .before .loop .inv .1) (eq-eqb _ _ (c .if1 .left)))
+loop-again c = (search needs, fold-step _&&_ true _ _ (c .before .loop .inv .1) refl)
 
-returns-2 : tie.Need-returns-2 Inv-loop μ-loop
-returns-2 c = let e : c .before .loop .j ≡ c .before .before .args .n = omega arith in sym (rw e at (c .before .loop .inv .1))
+returns : tie.Need-returns Inv-loop μ-loop
+returns c = let e : c .before .loop .j ≡ c .before .before .args .n = omega arith in rw e at (c .before .loop .inv .1)
 
 pub is-zero-spec : {M : Type 1} → statement M
-is-zero-spec =
-    tie.close
-    (tie.spec
-    Inv-loop
-    μ-loop
-    loop-holds
-    array-read-if1
-    returns
-    add-j
-    loop-less
-    loop-again
-    returns-2)
+is-zero-spec = tie.close (tie.spec Inv-loop μ-loop loop-holds array-read-ok add-j loop-less loop-again returns)
