@@ -16,37 +16,44 @@ use Rattle.book.specs.Layout.{width, fieldOf, bookOf}
 use Rattle.codebook.specs.Params.{Tabulated, Describes}
 use Rattle.codebook.specs.declared.Params.{Params}
 use Rattle.codebook.proofs.Described.{at-listed, code-tabulated}
+use Rattle.matrix.specs.Fill.{Listed}
 use Rattle.decoding.specs.Decode.{decodeWith}
 use Rattle.decoder.specs.Refusals.{decodeBytes}
 use Rattle.decoder.specs.Rounds.{listed, allRounds, Ready, Ended}
 use Rattle.decoder.specs.declared.Kind.the-variants.{Clean}
 use Rattle.decoder.specs.declared.rounds.End.{End}
 
--- what the rounds ask, from what `run` is given
-pub ready : (bytes : List ℕ) (c : Params) (t r m : List ℕ) → Describes bytes c → Tabulated bytes (c .p) (c .n) t
-    → Stored (c .p) (c .n) r → length m ≡ 2 ^ c .p * c .n → Ready bytes c t r m
-ready bytes c t r m d ht hr hm =
+-- what the rounds ask, from what `run` is given and the lists that it makes
+pub ready : (bytes : List ℕ) (c : Params) (t lists r m : List ℕ) → Describes bytes c → Tabulated bytes (c .p) (c .n) t
+    → Listed bytes (c .n) (c .duals) lists → Stored (c .p) (c .n) r → length m ≡ 2 ^ c .p * c .n → Ready bytes c t lists r m
+ready bytes c t lists r m d ht hl hr hm =
     record {
       describes = d;
       table-is = ht;
+      lists-are = hl;
       word = rw (d .p-is, d .n-is) at hr;
       size = rw (d .p-is, d .n-is) at hm;
     }
 
-module _ (bytes : List ℕ) (c : Params) (t r m₀ : List ℕ) (h : Ready bytes c t r m₀) where
+module _ (bytes : List ℕ) (c : Params) (t r : List ℕ) (d : Describes bytes c) (ht : Tabulated bytes (c .p) (c .n) t) where
   -- the test that is made is the definition's, of the listed word
   test : divides (gf (c .p)) (c .degree) (wordOf (c .n) t) (c .n) (place r)
       ≡ isCodeWord (fieldOf bytes) (bookOf width bytes) (at (bookOf width bytes .n) (listed bytes r))
   test =
-      let d = h .describes in
-      code-tabulated bytes c d (h .table-is) r ∙ ap (isCodeWord (fieldOf bytes) (bookOf width bytes)) (sym (at-listed bytes (d .accepted) r))
+      code-tabulated bytes c d ht r ∙ ap (isCodeWord (fieldOf bytes) (bookOf width bytes)) (sym (at-listed bytes (d .accepted) r))
 
-  pub decoded-clean : divides (gf (c .p)) (c .degree) (wordOf (c .n) t) (c .n) (place r) ≡ true → {m : List ℕ} → m ≡ table (length m₀) (λ k. 0)
+  pub decoded-clean : divides (gf (c .p)) (c .degree) (wordOf (c .n) t) (c .n) (place r) ≡ true → (m₀ : List ℕ) {m : List ℕ}
+      → length m₀ ≡ 2 ^ c .p * c .n → m ≡ table (length m₀) (λ k. 0)
       → Ended bytes (decodeBytes bytes (listed bytes r)) (record { kind = Clean; rounds = 0; word = r }) m
   unfolding decodeWith
-  decoded-clean t e =
+  decoded-clean t m₀ size e =
       rw (sym test ∙ t)
-      (record { kind-is = refl; rounds-is = refl; answer-is = refl; matrix-is = e ∙ ap (λ (k : ℕ). table k (λ k. 0)) (h .size) })
+      (record {
+        kind-is = refl;
+        rounds-is = refl;
+        answer-is = refl;
+        matrix-is = e ∙ ap (λ (k : ℕ). table k (λ k. 0)) (rw (d .p-is, d .n-is) at size);
+      })
 
   pub decoded-rounds : divides (gf (c .p)) (c .degree) (wordOf (c .n) t) (c .n) (place r) ≡ false → {x : End} {m : List ℕ}
       → Ended bytes (allRounds bytes (listed bytes r)) x m → Ended bytes (decodeBytes bytes (listed bytes r)) x m

@@ -1,6 +1,6 @@
 -- One round, from what its calls ensure.
 -- Assumes nothing.
-use mathlib.Core.Path.{_≡_, sym, ap, ap₂, _∙_, subst}
+use mathlib.Core.Path.{_≡_, refl, sym, ap, ap₂, _∙_, subst}
 use mathlib.Core.Bool.{Bool, true, _&&_}
 use mathlib.Core.List.{List}
 use Prim.Native.Nat.{ℕ, _<_}
@@ -35,6 +35,11 @@ use Rattle.codebook.proofs.Described.{book-laws, n-high, at-listed, code-tabula
 pub params-fillable : (bytes : List ℕ) (c : Params) → Describes bytes c → Fillable bytes (c .p) (c .n) (c .duals)
 unfolding bookOf
 params-fillable bytes c d = record { accepted = d .accepted; p-is = d .p-is; n-is = d .n-is; duals-is = d .duals-is }
+
+-- the lists ask nothing of p
+pub params-listable : (bytes : List ℕ) (c : Params) → Describes bytes c → Fillable bytes (symbolDigits bytes) (c .n) (c .duals)
+unfolding bookOf
+params-listable bytes c d = record { accepted = d .accepted; p-is = refl; n-is = d .n-is; duals-is = d .duals-is }
 
 module _ (bytes : List ℕ) (e : refusal width bytes ≡ 0) where
   abbrev F : FieldOps
@@ -84,7 +89,7 @@ module _ (bytes : List ℕ) (e : refusal width bytes ≡ 0) where
         }
 
 -- the same, as the calls say it by the parameters c
-module _ (bytes : List ℕ) (c : Params) (t w m₀ : List ℕ) (h : Ready bytes c t w m₀) (m v w′ : List ℕ)
+module _ (bytes : List ℕ) (c : Params) (t lists w m₀ : List ℕ) (h : Ready bytes c t lists w m₀) (m v w′ : List ℕ)
     (hm : m ≡ matrix (fieldOf bytes) (bookOf width bytes) (at (c .n) w))
     (hv : (B : Book) → B .n ≡ c .n → B .most-places ≡ c .places → v ≡ padded 63 (c .n) (correction (gf (c .p)) B (cell (gf (c .p)) B m)))
     (hw : w′ ≡ padded 63 (c .n) (λ j. bitXor (place w j) (place v j))) where

@@ -13,6 +13,7 @@ use Rattle.book.specs.Book.{Book, isCodeWord}
 use Rattle.book.specs.Layout.{width, symbolDigits, fieldOf, bookOf}
 use Rattle.codebook.specs.declared.Params.{Params}
 use Rattle.codebook.specs.Params.{Tabulated, Describes}
+use Rattle.matrix.specs.Fill.{Listed}
 use Rattle.decoding.specs.Matrix.{matrix, cell}
 use Rattle.decoding.specs.Decode.{Result, emptyUpdateSet, corrected, run, zeroMatrix}
 use Rattle.decoder.specs.Decoded.{kindOf}
@@ -40,10 +41,12 @@ module _ (bytes : List ℕ) where
   abbrev pub allRounds : List ℕ → Result
   allRounds r = run F B (matrix F B) (B .most-rounds) 0 r r (zeroMatrix F B)
 
-  -- what a round is given: an accepted book, its parameters and the table of its generator, a word of symbols and room for the matrix
-  pub record Ready (c : Params) (t w m : List ℕ) : Type 0 where
+  -- what a round is given: an accepted book, its parameters, the table of its generator and the lists of its dual words' places, a word of symbols and
+  -- room for the matrix
+  pub record Ready (c : Params) (t lists w m : List ℕ) : Type 0 where
     pub describes : Describes bytes c
     pub table-is : Tabulated bytes (c .p) (c .n) t
+    pub lists-are : Listed bytes (c .n) (c .duals) lists
     pub word : Stored (symbolDigits bytes) (B .n) w
     pub size : length m ≡ F .q * B .n
 

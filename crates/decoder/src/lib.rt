@@ -85,7 +85,9 @@ fn matrix_checked(book: &[u8], c: Params, received: &[u8], entries: &mut [u16]) 
         return Done::Refused(number);
     }
     let r = array::load(received, 0, n);
-    matrix::fill(book, p, n, c.duals, r, entries);
+    let mut lists = matrix::lists::room();
+    matrix::lists::list_places(book, n, c.duals, &mut lists);
+    matrix::fill(book, p, n, c.duals, &lists, r, entries);
     Done::Made
 }
 

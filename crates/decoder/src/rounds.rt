@@ -30,12 +30,12 @@ pub struct End {
 }
 
 // One round: makes the matrix and the update set, subtracts, and tests for a code word.
-fn round(book: &[u8], c: Params, t: &[u8], w: [u8; 63], m: &mut [u16]) -> Rounded
-    requires { ⌜ Ready (now book) c (now t) w (now m) ⌝ }
+fn round(book: &[u8], c: Params, t: &[u8], lists: &[u8], w: [u8; 63], m: &mut [u16]) -> Rounded
+    requires { ⌜ Ready (now book) c (now t) (now lists) w (now m) ⌝ }
     ensures { λ r. ⌜ Stepped (now (book .entry)) w r (now (m .exit)) ⌝ }
 {
     let n = c.n;
-    matrix::fill(book, c.p, n, c.duals, w, m);
+    matrix::fill(book, c.p, n, c.duals, lists, w, m);
     let e = update::corrections(c.p, n, c.places, m);
     let next = array::add(n, w, e);
     if array::is_zero(n, e) {
@@ -57,15 +57,15 @@ fn round(book: &[u8], c: Params, t: &[u8], w: [u8; 63], m: &mut [u16]) -> Rounde
 }
 
 // The rounds for a received word that is not a code word.
-fn go(book: &[u8], c: Params, t: &[u8], r: [u8; 63], m: &mut [u16]) -> End
-    requires { ⌜ Ready (now book) c (now t) r (now m) ⌝ }
+fn go(book: &[u8], c: Params, t: &[u8], lists: &[u8], r: [u8; 63], m: &mut [u16]) -> End
+    requires { ⌜ Ready (now book) c (now t) (now lists) r (now m) ⌝ }
     ensures { λ x. ⌜ Ended (now (book .entry)) (allRounds (now (book .entry)) (listed (now (book .entry)) r)) x (now (m .exit)) ⌝ }
 {
     let most = c.rounds;
     let mut w = r;
     let mut made: u8 = 0;
     while made < most {
-        let s = round(book, c, t, w, m);
+        let s = round(book, c, t, lists, w, m);
         let step = s.step;
         let next = s.word;
         made += 1;
@@ -96,7 +96,7 @@ fn go(book: &[u8], c: Params, t: &[u8], r: [u8; 63], m: &mut [u16]) -> End
     }
 }
 
-// Decodes the word r: Clean where it is a code word, with a matrix of zeros; else by rounds.
+// Decodes the word r: Clean where it is a code word, with a matrix of zeros; else by rounds, for which the dual words' places are listed once.
 pub fn run(book: &[u8], c: Params, t: &[u8], r: [u8; 63], m: &mut [u16]) -> End
     requires { ⌜ Describes (now book) c × Tabulated (now book) (c .p) (c .n) (now t) × Stored (c .p) (c .n) r × (length (now m) ≡ 2 ^ c .p * c .n) ⌝ }
     ensures { λ x. ⌜ Ended (now (book .entry)) (decodeBytes (now (book .entry)) (listed (now (book .entry)) r)) x (now (m .exit)) ⌝ }
@@ -109,5 +109,7 @@ pub fn run(book: &[u8], c: Params, t: &[u8], r: [u8; 63], m: &mut [u16]) -> End
             word: r,
         };
     }
-    go(book, c, t, r, m)
+    let mut lists = matrix::lists::room();
+    matrix::lists::list_places(book, c.n, c.duals, &mut lists);
+    go(book, c, t, &lists, r, m)
 }

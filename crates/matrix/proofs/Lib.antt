@@ -8,4 +8,5 @@ pub mod Placing
 pub mod RowTable
 pub mod CellSteps
 pub mod Listed
+pub mod Listing
 pub mod Whole

@@ -1,6 +1,6 @@
 -- The whole matrix: the dual words of an accepted book are where the loop reads them, and what they count is the matrix.
 -- Assumes nothing.
-use mathlib.Core.Path.{_≡_, sym, ap, _∙_, fun-ext, subst}
+use mathlib.Core.Path.{_≡_, refl, sym, ap, _∙_, fun-ext, subst}
 use mathlib.Core.Bool.{_&&_}
 use mathlib.Core.List.{List}
 use Prim.Native.Nat.{ℕ, _+_, _*_, _/_, _%_, _^_, _≤_, _<_}
@@ -75,14 +75,21 @@ module _ {bytes : List ℕ} {p n duals : ℕ} (ok : Fillable bytes p n duals) wh
         fun-ext (λ j.
         read-padded _ e (fill-sizes .n-high) (mod-lt j (fill-sizes .n-low)) ∙ ap (place bytes) (omega (arith, ap (λ (x : ℕ). j % x) (ok .n-is))))
 
+    pub dual-place : (j : ℕ) → j < n → place b j ≡ bookOf width bytes .dual l j
+    dual-place j d = sym (at-lt n b d) ∙ ap (λ (f : ℕ → ℕ). f j) dual-read
+
     pub dual-stored : Stored p n b
     unfolding bookOf
     dual-stored =
         record {
           symbol = λ j d.
-              subst (λ (x : ℕ). x < 2 ^ p) (ap (λ (f : ℕ → ℕ). f j) (sym dual-read) ∙ at-lt n b d)
+              subst (λ (x : ℕ). x < 2 ^ p) (sym (dual-place j d))
               (rw (ok .p-is) (accepted width (omega arith) bytes (ok .accepted) .1 .dual-symbols l (rw (ok .duals-is) at h) j));
         }
+
+  -- and where it is read without an array
+  pub dual-byte : {l : ℕ} → l < duals → (j : ℕ) → j < n → place bytes (71 + 64 * l + j) ≡ bookOf width bytes .dual l j
+  dual-byte {l} h j d = sym (read-padded _ refl (fill-sizes .n-high) d) ∙ dual-place h refl j d
 
   pub all-duals : (r : ℕ → ℕ)
       → table (2 ^ p * n) (λ k. total duals (λ l. dualAdds p n (bookOf width bytes .dual l) r k)) ≡ matrix (fieldOf bytes) (bookOf width bytes) r

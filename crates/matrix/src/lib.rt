@@ -4,15 +4,18 @@ ghost use Prim.Native.Nat.{_*_, _^_, _≤_};
 ghost use lib.ListN.{length};
 ghost use Rattle.range.specs.Table.{table};
 ghost use Rattle.word.specs.Word.{at};
-ghost use Rattle.array.specs.Stored.{Stored};
+ghost use Rattle.array.specs.Stored.{place, Stored};
 ghost use Rattle.tables.specs.Multiples.{wordOf, Multiples};
+ghost use Rattle.tables.specs.Support.{Lists};
 ghost use Rattle.book.specs.Layout.{width, fieldOf, bookOf};
 ghost use Rattle.decoding.specs.Matrix.{matrix};
 ghost use Rattle.matrix.specs.Count.{raised, dualAdds, Countable};
-ghost use Rattle.matrix.specs.Fill.{Fillable};
+ghost use Rattle.matrix.specs.Fill.{Fillable, Listed};
 ghost use Rattle.matrix.specs.Lookup.{Inverses, RowStarts};
+use tables::Nonzeros;
 
 pub mod few;
+pub mod lists;
 pub mod many;
 
 // Sets every entry to 0.
@@ -61,21 +64,21 @@ fn inverses(p: u8) -> [u8; 64]
     out
 }
 
-// Counts every place of the dual word b: one product of words serves them all. t is the table of the received word's multiples.
+// Counts the places s of the dual word b: one product of words serves them all. t is the table of the received word's multiples.
 fn count_dual(
     p: u8,
     n: usize,
     b: [u8; 63],
+    s: Nonzeros,
     inverses: [u8; 64],
     t: &[u8],
     index: &[u16],
     v: &mut [u8],
     m: &mut [u16],
 )
-    requires { ⌜ Countable p n (now m) 65200 × Stored p n b × Inverses p inverses × Multiples p n (now t) × RowStarts p n (now index) × (1024 ≤ length (now v)) ⌝ }
+    requires { ⌜ Countable p n (now m) 65200 × Stored p n b × Lists n (place b) s × Inverses p inverses × Multiples p n (now t) × RowStarts p n (now index) × (1024 ≤ length (now v)) ⌝ }
     ensures { λ _. ⌜ now (m .exit) ≡ raised (now (m .entry)) (dualAdds p n (at n b) (wordOf n (now (t .entry)))) ⌝ }
 {
-    let s = tables::support(n, b);
     let w = tables::product(p, n, b, s, t);
     if p < 4 {
         few::count(p, n, b, s, w, inverses, v, m);
@@ -84,9 +87,9 @@ fn count_dual(
     }
 }
 
-// Fills the matrix of the word r over the dual words of an accepted book: for each dual word b one product of words serves all places h.
-pub fn fill(book: &[u8], p: u8, n: usize, duals: usize, r: [u8; 63], m: &mut [u16])
-    requires { ⌜ Fillable (now book) p n duals × Stored p n r × (length (now m) ≡ 2 ^ p * n) ⌝ }
+// Fills the matrix of the word r over the dual words of an accepted book, whose nonzero places are listed.
+pub fn fill(book: &[u8], p: u8, n: usize, duals: usize, lists: &[u8], r: [u8; 63], m: &mut [u16])
+    requires { ⌜ Fillable (now book) p n duals × Listed (now book) n duals (now lists) × Stored p n r × (length (now m) ≡ 2 ^ p * n) ⌝ }
     ensures { λ _. ⌜ now (m .exit) ≡ matrix (fieldOf (now (book .entry))) (bookOf width (now (book .entry))) (at n r) ⌝ }
 {
     clear(m);
@@ -99,7 +102,8 @@ pub fn fill(book: &[u8], p: u8, n: usize, duals: usize, r: [u8; 63], m: &mut [u1
     let mut l = 0;
     while l < duals {
         let b = array::load(book, 71 + 64 * l, n);
-        count_dual(p, n, b, inverses, &t, &index, &mut v, m);
+        let s = tables::lists::read_list(lists, l);
+        count_dual(p, n, b, s, inverses, &t, &index, &mut v, m);
         l += 1;
     }
 }

@@ -40,7 +40,9 @@ fn pack_decoded(r: Decoded) -> u32
 {
     match r {
         Decoded::Answered(kind, rounds, changed) => {
-            256 * (changed as u32) + 65536 * (rounds as u32) + 16777216 * (decoder::letter(kind) as u32)
+            256 * (changed as u32)
+                + 65536 * (rounds as u32)
+                + 16777216 * (decoder::letter(kind) as u32)
         }
         Decoded::Refused(number) => number as u32,
     }

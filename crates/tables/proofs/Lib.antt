@@ -1,5 +1,6 @@
 pub mod Window
 pub mod Listing
+pub mod ListRows
 pub mod Rows
 pub mod Adding
 pub mod Tables

@@ -27,15 +27,19 @@ pub record Listing (size n : ℕ) (b : ℕ → ℕ) (places : List ℕ) (count h
   pub folds : (op : ℕ → ℕ → ℕ) (e : ℕ) → ((x : ℕ) → op x e ≡ x) → (f : ℕ → ℕ)
       → fold op e count (λ i. f (place places i)) ≡ fold op e h (λ h. cond (nonzero (b h)) (f h) e)
 
-pub listing-none : (size n : ℕ) (b : ℕ → ℕ) → Listing size n b (replicate size 0) 0 0
-listing-none size n b =
+-- before the first place nothing is listed, whatever stands there
+pub listing-any : (size n : ℕ) (b : ℕ → ℕ) (places : List ℕ) → length places ≡ size → Listing size n b places 0 0
+listing-any size n b places e =
     record {
-      long = length-replicate size 0;
+      long = e;
       within = zero-le;
       count-le = zero-le;
       place-lt = λ i l. absurd (not-suc-le-zero l);
       folds = λ op e unit f. fold-none op e _ ∙ sym (fold-none op e _);
     }
+
+pub listing-none : (size n : ℕ) (b : ℕ → ℕ) → Listing size n b (replicate size 0) 0 0
+listing-none size n b = listing-any size n b (replicate size 0) (length-replicate size 0)
 
 module _ {size n : ℕ} {b : ℕ → ℕ} {places : List ℕ} {count h : ℕ} (s : Listing size n b places count h) where
   pub listing-fits : h < n → Fits w64 n → (t : Bool) → Fits w64 (count + boolByte t)

@@ -1,3 +1,4 @@
 pub mod Multiples
 pub mod Support
+pub mod Lists
 pub mod Window

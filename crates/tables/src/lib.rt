@@ -14,6 +14,7 @@ ghost use Rattle.tables.specs.Multiples.{Twofold, entry, wordOf, Multipl
 ghost use Rattle.tables.specs.Support.{Lists};
 
 pub mod division;
+pub mod lists;
 
 // The places where a word is not zero, in rising order.
 pub struct Nonzeros {

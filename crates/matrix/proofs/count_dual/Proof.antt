@@ -5,9 +5,6 @@ use borrow.Author.Needs.{needs}
 use Rattle.matrix.proofs.count_dual.Statement.{statement}
 use Rattle.matrix.proofs.count_dual.Tie as tie
 
-support-requires : tie.Need-support-requires
-support-requires c κs = search needs
-
 product-requires : tie.Need-product-requires
 product-requires c κs = search needs
 
@@ -27,7 +24,7 @@ returns : tie.Need-returns
 returns c =
     let s = c .before .before .before .before in
     let t = s .before .before .before .before in
-    dual-raised (t .before .before .before .before .before .before .pre .0 .sizes) _ _ (t .product .ensures) _ (s .count .ensures)
+    dual-raised (t .before .before .before .before .before .pre .0 .sizes) _ _ (t .product .ensures) _ (s .count .ensures)
 
 same-length-3 : tie.Need-same-length-3
 same-length-3 c = search needs
@@ -36,13 +33,12 @@ returns-2 : tie.Need-returns-2
 returns-2 c =
     let s = c .before .before in
     let t = s .before .before .before in
-    dual-raised (t .before .before .before .before .before .before .pre .0 .sizes) _ _ (t .product .ensures) _ (s .count2 .ensures)
+    dual-raised (t .before .before .before .before .before .pre .0 .sizes) _ _ (t .product .ensures) _ (s .count2 .ensures)
 
 pub count-dual-spec : {M : Type 1} → statement M
 count-dual-spec =
     tie.close
     (tie.spec
-    support-requires
     product-requires
     count-requires
     count-requires-2

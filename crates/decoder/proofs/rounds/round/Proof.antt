@@ -12,19 +12,19 @@ use Rattle.decoder.proofs.rounds.round.Tie as tie
 
 fill-requires : tie.Need-fill-requires
 fill-requires c κs =
-    let h = c .before .before .before .before .pre in
-    (params-fillable _ _ (h .describes), params-stored _ _ (h .describes) (h .word), params-matrix _ _ (h .describes) (h .size))
+    let h = c .before .before .before .before .before .pre in
+    (params-fillable _ _ (h .describes), h .lists-are, params-stored _ _ (h .describes) (h .word), params-matrix _ _ (h .describes) (h .size))
 
 corrections-requires : tie.Need-corrections-requires
 corrections-requires c κs =
-    let h = c .before .before .before .before .before .before .before .before .pre in
+    let h = c .before .before .before .before .before .before .before .before .before .pre in
     (params-sizes _ _ (h .describes), params-matrix _ _ (h .describes) (ap length (c .before .before .before .fill .ensures) ∙ matrix-length _ _ _ _))
 
 add-requires : tie.Need-add-requires
-add-requires c κs = params-sizes _ _ (c .before .before .before .before .before .before .before .before .before .pre .describes) .n-high
+add-requires c κs = params-sizes _ _ (c .before .before .before .before .before .before .before .before .before .before .pre .describes) .n-high
 
 is-zero-requires : tie.Need-is-zero-requires
-is-zero-requires c κs = params-sizes _ _ (c .before .before .before .before .before .before .before .before .before .before .pre .describes) .n-high
+is-zero-requires c κs = params-sizes _ _ (c .before .before .before .before .before .before .before .before .before .before .before .pre .describes) .n-high
 
 same-length : tie.Need-same-length
 same-length c = search needs
@@ -32,20 +32,20 @@ same-length c = search needs
 returns : tie.Need-returns
 returns c =
     let s = c .before .before .before .before .before .before .before in
-    let start = s .before .before .before .before .before in
-    round-done _ _ _ _ _ (start .pre) _ _ _ (s .fill .ensures) (c .before .before .before .corrections .ensures) (c .before .before .add .ensures) true _ refl
+    let start = s .before .before .before .before .before .before in
+    round-done _ _ _ _ _ _ (start .pre) _ _ _ (s .fill .ensures) (c .before .before .before .corrections .ensures) (c .before .before .add .ensures) true _ refl
     (sym (c .before .is-zero .ensures) ∙ c .if1 .taken) refl
 
 divides-requires : tie.Need-divides-requires
 divides-requires c κs =
     let s = c .before .before .before .before .before .before .before in
-    let h = s .before .before .before .before .before .pre in
+    let h = s .before .before .before .before .before .before .pre in
     let d = h .describes in (
       params-sizes _ _ d,
       degree-low _ _ d,
       degree-high _ _ d,
       params-stored _ _ d
-          (round-stored _ _ _ _ _ h _ _ _ (s .fill .ensures) (c .before .before .before .corrections .ensures) (c .before .before .add .ensures)),
+          (round-stored _ _ _ _ _ _ h _ _ _ (s .fill .ensures) (c .before .before .before .corrections .ensures) (c .before .before .add .ensures)),
       h .table-is .multiples,
     )
 
@@ -56,8 +56,8 @@ returns-2 : tie.Need-returns-2
 returns-2 c =
     let t = c .before .before in
     let s = t .before .before .before .before .before .before .before in
-    let start = s .before .before .before .before .before in
-    round-done _ _ _ _ _ (start .pre) _ _ _ (s .fill .ensures) (t .before .before .before .corrections .ensures) (t .before .before .add .ensures) false true refl
+    let start = s .before .before .before .before .before .before in
+    round-done _ _ _ _ _ _ (start .pre) _ _ _ (s .fill .ensures) (t .before .before .before .corrections .ensures) (t .before .before .add .ensures) false true refl
     (sym (t .before .is-zero .ensures) ∙ t .if1 .left) (sym (c .before .divides .ensures) ∙ c .if2 .taken)
 
 same-length-3 : tie.Need-same-length-3
@@ -67,8 +67,8 @@ returns-3 : tie.Need-returns-3
 returns-3 c =
     let t = c .before .before in
     let s = t .before .before .before .before .before .before .before in
-    let start = s .before .before .before .before .before in
-    round-done _ _ _ _ _ (start .pre) _ _ _ (s .fill .ensures) (t .before .before .before .corrections .ensures) (t .before .before .add .ensures) false false refl
+    let start = s .before .before .before .before .before .before in
+    round-done _ _ _ _ _ _ (start .pre) _ _ _ (s .fill .ensures) (t .before .before .before .corrections .ensures) (t .before .before .add .ensures) false false refl
     (sym (t .before .is-zero .ensures) ∙ t .if1 .left) (sym (c .before .divides .ensures) ∙ c .if2 .left)
 
 pub round-spec : {M : Type 1} → statement M
