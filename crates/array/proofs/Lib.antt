@@ -1,5 +1,2 @@
 pub mod Filled
 pub mod Counted
-pub mod Shifted
-pub mod Product
-pub mod Division

@@ -27,7 +27,7 @@ use Rattle.book.specs.Conditions.{limitsOk, refusal}
 use Rattle.book.proofs.Sound.{sound}
 use Rattle.book.proofs.Accepting.{Sizes, accepted}
 use Rattle.tables.specs.Multiples.{wordOf}
-use Rattle.tables.proofs.Degree.{divides-by}
+use Rattle.division.proofs.Degree.{divides-by}
 use Rattle.codebook.specs.Params.{Tabulated, Describes}
 use Rattle.codebook.specs.declared.Params.{Params}
 use Rattle.codebook.proofs.Tested.{readable}

@@ -1,5 +1,7 @@
 pub mod Bounded
 pub mod Tested
 pub mod Reading
+pub mod DualWords
+pub mod Signed
 pub mod Generator
 pub mod Described

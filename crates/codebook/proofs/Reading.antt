@@ -1,10 +1,10 @@
 -- What readable bytes hold: the words that the code loads are those of the book, and its tests are the book's.
 -- Assumes nothing.
-use mathlib.Core.Path.{_≡_, refl, ap, ap₂, _∙_, fun-ext}
-use mathlib.Core.Bool.{Bool, true, _&&_}
+use mathlib.Core.Path.{_≡_, ap, ap₂, _∙_}
+use mathlib.Core.Bool.{true, _&&_}
 use mathlib.Core.List.{List}
 use Prim.Native.Nat.{ℕ, _+_, _%_, _<_}
-use native.Mathlib.Nat.{mod-lt, mod-eq-of-lt}
+use native.Mathlib.Nat.{mod-eq-of-lt}
 use native.Mathlib.Omega.{arith}
 use lib.Dec.{T, eqb}
 use lib.ListN.{length}
@@ -14,23 +14,17 @@ use Rattle.range.proofs.Tests.{and-left, and-right}
 use Rattle.range.proofs.Fold.{fold-cong}
 use Rattle.range.proofs.Table.{all-at}
 use Rattle.range.proofs.Loop.{padded-whole}
-use Rattle.field.specs.Field.{FieldLaws}
-use Rattle.field.specs.Symbols.{gf}
-use Rattle.field.proofs.Gf.{gf-laws}
-use Rattle.word.specs.Word.{at, weight}
-use Rattle.word.proofs.Place.{at-lt}
-use Rattle.word.proofs.Product.{product-cong}
 use Rattle.array.specs.Stored.{place, Sizes, Stored}
 use Rattle.array.proofs.Filled.{read-padded}
 use Rattle.book.specs.Layout.{width, generatorAt, limitsAt, dualAt, dualCount, byte, bodyPlace, wordLength, fieldOf, degreeOf, bookOf}
-use Rattle.book.specs.Conditions.{bodyOk, symbolsOk, generatorOk, limitsOk, dualOk, alike}
+use Rattle.book.specs.Conditions.{bodyOk, symbolsOk, generatorOk, limitsOk, alike}
 use Rattle.book.proofs.Accepting.{sizes, body-symbol, body-zero}
-use Rattle.codebook.specs.Params.{Readable, Sized, Read, generatorTest, limitsTest, dualTest}
+use Rattle.codebook.specs.Params.{Readable, Sized, Read, generatorTest, limitsTest}
 
 -- ---- readable bytes
 
 module _ {bytes : List ℕ} (r : Readable bytes) where
-  generator-body : T (bodyOk width bytes generatorAt)
+  pub generator-body : T (bodyOk width bytes generatorAt)
   unfolding symbolsOk
   generator-body = and-left (bodyOk width bytes generatorAt) _ (r .symbols)
 
@@ -46,12 +40,6 @@ module _ {bytes : List ℕ} (r : Readable bytes) where
 -- ---- dual words, where no more is known than the length of the bytes
 
 module _ {bytes : List ℕ} {n : ℕ} (h : Sized bytes n) where
-  -- loaded from its body
-  pub dual-loaded : (l : ℕ) {b : List ℕ} → b ≡ padded 63 n (bodyPlace bytes (dualAt width l)) → at n b ≡ bookOf width bytes .dual l
-  unfolding at bookOf
-  dual-loaded l e =
-      fun-ext (λ j. read-padded _ e (h .n-high) (mod-lt j (h .n-low)) ∙ ap (λ (m : ℕ). bodyPlace bytes (dualAt width l) (j % m)) (h .n-is))
-
   -- two compared where they lie
   pub alike-test : (l m : ℕ) {a b : ℕ} → a ≡ dualAt width l + 1 → b ≡ dualAt width m + 1
       → all n (λ j. eqb (byte bytes (a + j)) (byte bytes (b + j))) ≡ alike (fieldOf bytes) (bookOf width bytes) l m
@@ -95,17 +83,3 @@ module _ {bytes : List ℕ} {p n : ℕ} {g : List ℕ} (h : Read bytes p n g) wh
   pub limits-test : limitsTest n (byte bytes (limitsAt width + 1)) (byte bytes (limitsAt width + 2)) ≡ limitsOk (fieldOf bytes) (bookOf width bytes)
   unfolding limitsTest limitsOk bookOf
   limits-test = rw (h .sized .n-is)
-
-  pub dual-test : (l : ℕ) {b : List ℕ} {wanted : ℕ} {G : ℕ → ℕ} → ((j : ℕ) → G j ≡ at n g j) → b ≡ padded 63 n (bodyPlace bytes (dualAt width l))
-      → wanted ≡ weight n (bookOf width bytes .dual 0) → dualTest p n G (at n b) wanted ≡ dualOk (fieldOf bytes) (bookOf width bytes) l
-  unfolding dualTest dualOk bookOf
-  dual-test l {b} {wanted} same e f =
-      ap (λ (G : ℕ → ℕ). dualTest p n G (at n b) wanted) (fun-ext same) ∙ ap₂ (dualTest p n (at n g)) (dual-loaded (h .sized) l e) f ∙ ap products (fold-cong _&&_ true n (λ m k.
-      ap (λ (x : ℕ). eqb x 0) (product-cong (gf p) laws n (λ u k. at-lt n g k ∙ ap (λ (G : ℕ → ℕ). G u) generator-is) (λ j. refl) m)))
-      ∙ rw (h .p-is, h .sized .n-is)
-    where
-      laws : FieldLaws (gf p)
-      laws = gf-laws p (read-sizes .p-low) (read-sizes .p-high)
-
-      products : Bool → Bool
-      products t = eqb (bookOf width bytes .dual l 0) 1 && t && eqb (weight n (bookOf width bytes .dual l)) (weight n (bookOf width bytes .dual 0))

@@ -6,11 +6,10 @@ use mathlib.Core.List.{List, [], _∷_}
 use Prim.Native.Nat.{ℕ, suc, _+_, _^_, _≤_}
 use lib.Dec.{T, eqb, leb, ltb}
 use lib.ListN.{length}
-use Rattle.range.specs.Fold.{all}
 use Rattle.range.specs.Table.{table, padded}
 use Rattle.field.specs.Answer.{Answer, answer, done, refused}
 use Rattle.field.specs.Symbols.{gf}
-use Rattle.word.specs.Word.{at, weight, product}
+use Rattle.word.specs.Word.{at}
 use Rattle.word.specs.Division.{divides}
 use Rattle.word.specs.CyclicCode.{unity}
 use Rattle.array.specs.Stored.{place}
@@ -66,7 +65,7 @@ pub record Tabulated (bytes : List ℕ) (p n : ℕ) (t : List ℕ) : Type 0 wher
   pub multiples : Multiples p n t
   pub word : (j : ℕ) → wordOf n t j ≡ at n (padded 63 n (λ j. place bytes (4 + j))) j
 
--- ---- the tests that the code makes of the conditions 5 to 7, each of what it asks alone
+-- ---- the tests that the code makes of the conditions 5 and 6, each of what it asks alone
 
 -- 5, of the coefficients g
 unfoldable pub generatorTest : ℕ → ℕ → (ℕ → ℕ) → Bool
@@ -75,10 +74,6 @@ generatorTest p n g = leb 1 (degreeOf n g) && eqb (g (degreeOf n g)) 1 && divide
 -- 6, of I and D
 unfoldable pub limitsTest : ℕ → ℕ → ℕ → Bool
 limitsTest n rounds places = leb 1 rounds && leb rounds 63 && leb 1 places && leb places n
-
--- 7, of a dual word b, where the first one has the weight `wanted`
-unfoldable pub dualTest : ℕ → ℕ → (ℕ → ℕ) → (ℕ → ℕ) → ℕ → Bool
-dualTest p n g b wanted = eqb (b 0) 1 && all n (λ m. eqb (product (gf p) n g b m) 0) && eqb (weight n b) wanted
 
 -- c was read off bytes that are accepted
 pub record Describes (bytes : List ℕ) (c : Params) : Type 0 where

@@ -1,6 +1,6 @@
 // The codebook: its byte layout and the conditions under which it is accepted. The book is read where it lies.
 ghost use mathlib.Core.Path.{_≡_};
-ghost use Prim.Native.Nat.{_≤_};
+ghost use Prim.Native.Nat.{_*_, _^_, _≤_};
 ghost use lib.ListN.{length};
 ghost use Rattle.book.specs.Layout.{width};
 ghost use Rattle.book.specs.Conditions.{refusal};
@@ -75,7 +75,7 @@ pub fn describe(book: &[u8]) -> Params
 
 // Makes the table of the generator's multiples of an accepted book, for many words.
 pub fn prepare(book: &[u8], c: Params, t: &mut [u8])
-    requires { ⌜ Describes (now book) c × (8192 ≤ length (now t)) ⌝ }
+    requires { ⌜ Describes (now book) c × (128 * 2 ^ c .p ≤ length (now t)) ⌝ }
     ensures { λ _. ⌜ Tabulated (now (book .entry)) (c .p) (c .n) (now (t .exit)) ⌝ }
 {
     words::tabulate(book, c.p, c.n, t);

@@ -5,30 +5,41 @@ ghost use Prim.Native.Nat.{ℕ, _+_, _*_, _^_, _<_, _≤_};
 ghost use lib.ListN.{length};
 ghost use Rattle.range.specs.Fold.{all};
 ghost use Rattle.range.specs.Table.{padded};
-ghost use Rattle.word.specs.Word.{at};
 ghost use Rattle.array.specs.Stored.{place, Sizes, Stored};
 ghost use Rattle.tables.specs.Multiples.{wordOf, Multiples};
-ghost use Rattle.book.specs.Layout.{width, dualCount, fieldOf, degreeOf, bookOf};
+ghost use Rattle.book.specs.Layout.{width, dualCount, symbolDigits, fieldOf, degreeOf, bookOf};
 ghost use Rattle.book.specs.Conditions.{dualsOk, alike, distinctOk, bookRefusal};
-ghost use Rattle.codebook.specs.Params.{Readable, Sized, Read, Tabulated, generatorTest, limitsTest, dualTest};
+ghost use Rattle.codebook.specs.Params.{Readable, Sized, Read, Tabulated, generatorTest, limitsTest};
 
-// The first number from 5 to 8 that applies, or 0.
+// The first number from 5 to 8 that applies, or 0. The room for the generator's table is no larger than p asks: to clear it costs time.
 pub fn refusal(book: &[u8]) -> u8
     requires { ⌜ Readable (now book) ⌝ }
+    ensures { λ r. ⌜ r ≡ bookRefusal (fieldOf (now (book .entry))) (bookOf width (now (book .entry))) ⌝ }
+{
+    if book[2] < 4 {
+        let mut t = few_room();
+        return refusal_by(book, &mut t);
+    }
+    let mut t = table_room();
+    refusal_by(book, &mut t)
+}
+
+// The same, with room for the table.
+fn refusal_by(book: &[u8], t: &mut [u8]) -> u8
+    requires { ⌜ Readable (now book) × (128 * 2 ^ symbolDigits (now book) ≤ length (now t)) ⌝ }
     ensures { λ r. ⌜ r ≡ bookRefusal (fieldOf (now (book .entry))) (bookOf width (now (book .entry))) ⌝ }
 {
     let p = book[2];
     let n = crate::bytes::word_length(book[1]);
     let g = array::load(book, 4, n);
-    let mut t = table_room();
-    tabulate(book, p, n, &mut t);
-    if !generator_ok(p, n, g, &t) {
+    tabulate(book, p, n, t);
+    if !generator_ok(p, n, g, t) {
         return 5;
     }
     if !limits_ok(n, book[68], book[69]) {
         return 6;
     }
-    if !duals_ok(p, n, book, &t) {
+    if !duals_ok(p, n, book, t) {
         return 7;
     }
     if !distinct_ok(n, book) {
@@ -60,6 +71,13 @@ pub fn table_room() -> [u8; 8192]
     [0; 8192]
 }
 
+// The same where p is at most 3.
+pub fn few_room() -> [u8; 1024]
+    ensures { λ r. ⌜ 1024 ≡ length r ⌝ }
+{
+    [0; 1024]
+}
+
 // Makes the table of the generator's multiples.
 pub fn tabulate(book: &[u8], p: u8, n: usize, t: &mut [u8])
     requires { ⌜ Sizes p n × (4 + n ≤ length (now book)) × Stored p n (padded 63 n (λ j. place (now book) (4 + j))) × (128 * 2 ^ p ≤ length (now t)) ⌝ }
@@ -82,7 +100,7 @@ fn generator_ok(p: u8, n: usize, g: [u8; 63], t: &[u8]) -> bool
     if leading != 1 {
         return false;
     }
-    tables::division::divides_unity(p, n, d, t)
+    division::divides_unity(p, n, d, t)
 }
 
 // 6: the most rounds from 1 to 63, the most places from 1 to n.
@@ -101,43 +119,34 @@ fn limits_ok(n: usize, rounds: u8, places: u8) -> bool
     places as usize <= n
 }
 
-// 7 for one dual word b: symbol 1 at place 0, its product with the table's word is zero, and its weight is the one wanted.
-fn dual_ok(p: u8, n: usize, b: [u8; 63], t: &[u8], wanted: usize) -> bool
-    requires { ⌜ Sizes p n × Stored p n b × Multiples p n (now t) ⌝ }
-    ensures { λ r. ⌜ r ≡ dualTest p n (wordOf n (now (t .entry))) (at n b) wanted ⌝ }
-{
-    if b[0] != 1 {
-        return false;
-    }
-    let s = tables::support(n, b);
-    let product = tables::product(p, n, b, s, t);
-    if !tables::vanishes(n, &product) {
-        return false;
-    }
-    s.count == wanted
-}
-
-// 7: over all dual words, whose weight is that of the first.
+// 7: every dual word has symbol 1 at place 0, the weight of the first, and a product with g that is zero.
 fn duals_ok(p: u8, n: usize, book: &[u8], t: &[u8]) -> bool
     requires { ⌜ Read (now book) p n (padded 63 n (λ j. place (now book) (4 + j))) × Tabulated (now book) p n (now t) ⌝ }
     ensures { λ r. ⌜ r ≡ dualsOk (fieldOf (now (book .entry))) (bookOf width (now (book .entry))) ⌝ }
 {
     let count = crate::bytes::dual_count(book);
-    let first = array::load(book, 71, n);
-    let wanted = array::weight(n, first);
-    let mut l = 0;
-    while l < count {
-        let b = array::load(book, 71 + 64 * l, n);
-        if !dual_ok(p, n, b, t, wanted) {
-            return false;
-        }
-        l += 1;
+    if !duals::weights_ok(book, n, count) {
+        return false;
     }
-    true
+    duals::products_vanish(p, n, book, count, t)
 }
 
-// 8: no dual word is like one before it.
+// 8: no two dual words are equal. Only where two have one signature are words compared.
 fn distinct_ok(n: usize, book: &[u8]) -> bool
+    requires { ⌜ Readable (now book) × Sized (now book) n ⌝ }
+    ensures { λ r. ⌜ r ≡ distinctOk (fieldOf (now (book .entry))) (bookOf width (now (book .entry))) ⌝ }
+{
+    let count = crate::bytes::dual_count(book);
+    let f = signature::factors();
+    let s = signature::signatures(&f, book, 70, count);
+    if signature::all_differ(count, &s) {
+        return true;
+    }
+    pairs_ok(n, book)
+}
+
+// The same by comparing: no dual word is like one before it.
+fn pairs_ok(n: usize, book: &[u8]) -> bool
     requires { ⌜ Sized (now book) n ⌝ }
     ensures { λ r. ⌜ r ≡ distinctOk (fieldOf (now (book .entry))) (bookOf width (now (book .entry))) ⌝ }
 {

@@ -28,7 +28,7 @@ fn write_word(book: &[u8], message: &[u8], word: &mut [u8])
     let n = c.n;
     let f = array::load(message, 0, n - c.degree);
     let g = array::load(book, 4, n);
-    array::store(array::cyclic_product(c.p, n, f, g), word);
+    array::store(polynomials::cyclic_product(c.p, n, f, g), word);
 }
 
 // Code a message of k symbols into a word of n.
@@ -67,7 +67,7 @@ fn write_message(book: &[u8], word: &[u8], message: &mut [u8]) -> Done
     let d = c.degree;
     let w = array::load(word, 0, n);
     let g = array::load(book, 4, n);
-    let parts = array::divide(c.p, n, d, g, w);
+    let parts = polynomials::divide(c.p, n, d, g, w);
     let remainder = parts.remainder;
     if !array::is_zero(d, remainder) {
         return Done::Refused(12);

@@ -34,11 +34,12 @@ use Rattle.decoding.specs.Decode.{Result, letter}
 use Rattle.decoding.proofs.Matrix.{matrix-length}
 use Rattle.decoding.proofs.Outcome.{decode-sound}
 use Rattle.decoder.specs.Refusals.{matrixInputRefusal, matrixRefusal, matrixBytes, decodeInputRefusal, decodeRefusal, decodeBytes}
-use Rattle.decoder.specs.Decoded.{kindOf, values, Decodes}
-use Rattle.decoder.specs.Rounds.{listed, Ended}
+use Rattle.rounds.specs.Kind.{kindOf}
+use Rattle.decoder.specs.Decoded.{values, Decodes}
+use Rattle.rounds.specs.Rounds.{listed, Ended}
 use Rattle.decoder.specs.declared.Decoded.{Decoded}
 use Rattle.decoder.specs.declared.Decoded.the-variants.{Answered, Refused}
-use Rattle.decoder.specs.declared.rounds.End.{End}
+use Rattle.rounds.specs.declared.End.{End}
 
 -- ---- the refusals, by the parameters that were read off the book
 

@@ -1,4 +1,1 @@
-pub mod Stepping
-pub mod Running
-pub mod Decoding
 pub mod Answering

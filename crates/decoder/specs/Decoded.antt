@@ -5,20 +5,13 @@ use mathlib.Core.List.{List, [], _∷_}
 use Prim.Native.Nat.{ℕ}
 use Rattle.field.specs.Answer.{Answer, answer, done, refused}
 use Rattle.book.specs.Inputs.{left}
-use Rattle.decoding.specs.Decode as D
 use Rattle.decoding.specs.Decode.{Result, letter}
-use Rattle.decoder.specs.declared.Kind.{Kind}
-use Rattle.decoder.specs.declared.Kind.the-variants.{Clean, Mended, Stalled, Spent}
+use Rattle.rounds.specs.declared.Kind.{Kind}
+use Rattle.rounds.specs.Kind.{kindOf}
 use Rattle.decoder.specs.declared.Decoded.{Decoded}
 use Rattle.decoder.specs.declared.Decoded.the-variants.{Answered, Refused}
 
--- the kind that each case of the code's enum stands for
-abbrev pub kindOf : Kind → D.Kind
-kindOf Clean = D.clean
-kindOf Mended = D.mended
-kindOf Stalled = D.stalled
-kindOf Spent = D.spent
-
+-- the letter of its kind
 abbrev pub letterOf : Kind → ℕ
 letterOf kind = letter (kindOf kind)
 

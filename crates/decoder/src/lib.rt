@@ -10,16 +10,7 @@ ghost use Rattle.decoder.specs.Refusals.{matrixInputRefusal, matrixRefus
 ghost use Rattle.decoder.specs.Decoded.{letterOf, Decodes};
 use codebook::Params;
 use inputs::Done;
-
-pub mod rounds;
-
-// The kind of answer.
-pub enum Kind {
-    Clean,
-    Mended,
-    Stalled,
-    Spent,
-}
+use rounds::Kind;
 
 // Kind, rounds and changed, or the number of the refusal.
 pub enum Decoded {
@@ -85,9 +76,12 @@ fn matrix_checked(book: &[u8], c: Params, received: &[u8], entries: &mut [u16]) 
         return Done::Refused(number);
     }
     let r = array::load(received, 0, n);
-    let mut lists = matrix::lists::room();
-    matrix::lists::list_places(book, n, c.duals, &mut lists);
-    matrix::fill(book, p, n, c.duals, &lists, r, entries);
+    let x = powers::powers(p);
+    let logs = x.logs;
+    let mut sums = matrix::offset_room();
+    let mut turns = matrix::offset_room();
+    let weight = counting::list(book, p, n, c.duals, logs, &mut sums, &mut turns);
+    matrix::fill(book, p, n, c.duals, weight, x, &sums, &turns, r, entries);
     Done::Made
 }
 

@@ -1,12 +1,1 @@
-pub mod Raised
-pub mod Inverting
-pub mod Dual
-pub mod Cells
-pub mod Rows
-pub mod Starting
-pub mod Placing
-pub mod RowTable
-pub mod CellSteps
-pub mod Listed
-pub mod Listing
 pub mod Whole

@@ -1,3 +1,1 @@
-pub mod Count
 pub mod Fill
-pub mod Lookup

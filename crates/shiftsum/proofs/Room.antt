@@ -2,7 +2,9 @@
 -- Assumes nothing.
 use mathlib.Core.Path.{_≡_, ap, _∙_}
 use mathlib.Core.List.{List}
-use Prim.Native.Nat.{ℕ, _*_, _^_}
+use Prim.Native.Nat.{ℕ, _*_, _^_, _≤_}
+use native.Mathlib.Nat.{mul-le-mul}
+use lib.Pow.{pow-mono}
 use Rattle.field.specs.Answer.{answer}
 use Rattle.field.proofs.Refusals.{answers-refused}
 use Rattle.book.specs.Layout.{width}
@@ -16,6 +18,10 @@ use Rattle.decoder.specs.Decoded.{said, values, Decodes}
 use Rattle.decoder.specs.declared.Decoded.{Decoded}
 use Rattle.decoder.proofs.Answering.{decode-refused, decode-accepted}
 use Rattle.shiftsum.specs.Packed.{packed, DecodedInto}
+
+-- the entries of a matrix of at most 8 symbols
+pub few-entries : (p : ℕ) {n : ℕ} → p ≤ 3 → n ≤ 63 → 2 ^ p * n ≤ 504
+few-entries p {n} h l = mul-le-mul {n₂ = 8} {m₂ = 63} (pow-mono h) l
 
 module _ (bytes received : List ℕ) (room : ℕ) (word : List ℕ) where
   -- the book is refused

@@ -15,10 +15,10 @@ use borrow.Author.Tests.{eq-eqb, ne-eqb}
 use Rattle.book.specs.Layout.{width}
 use Rattle.book.specs.Conditions.{unless, refusal}
 use Rattle.codebook.proofs.Described.{n-pos}
-use Rattle.stream.specs.Output.{wordSize, textOf, mostWords, bookLength, openingRefusal, openingText, wordsText, output}
-use Rattle.stream.specs.Reads.{bookRoom}
-use Rattle.stream.proofs.Blocks.{text-piece, text-join}
-use Rattle.stream.proofs.Opened.{opening-accepted}
+use Rattle.output.specs.Output.{wordSize, textOf, mostWords, bookLength, openingRefusal, openingText, wordsText, output}
+use Rattle.opening.specs.Room.{bookRoom}
+use Rattle.output.proofs.Blocks.{text-piece, text-join}
+use Rattle.output.proofs.Opened.{opening-accepted}
 
 -- ---- the calls
 

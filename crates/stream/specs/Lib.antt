@@ -1,3 +1,1 @@
-pub mod Output
-pub mod Example
 pub mod Reads

@@ -9,12 +9,10 @@ ghost use lib.ListN.{length, take};
 ghost use Rattle.book.specs.Layout.{width};
 ghost use Rattle.book.specs.Conditions.{refusal};
 ghost use Rattle.report.specs.Printed.{written};
-ghost use Rattle.stream.specs.Output.{textOf, mostWords};
-ghost use Rattle.stream.specs.Reads.{Ready, Reads};
+ghost use Rattle.output.specs.Output.{textOf, mostWords};
+ghost use Rattle.stream.specs.Reads.{Reads};
+ghost use Rattle.lines.specs.Ready.{Ready};
 use codebook::Params;
-
-pub mod lines;
-pub mod opening;
 
 // How many bytes were read, and whether the run goes on after them.
 pub struct Served {

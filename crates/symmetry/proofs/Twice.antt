@@ -22,9 +22,10 @@ use Rattle.decoding.specs.Decode.{Result, letter}
 use Rattle.decoding.specs.Symmetry.{move, Moved}
 use Rattle.decoding.proofs.Demand3.{moved-word, demand-3}
 use Rattle.decoder.specs.Refusals.{decodeInputRefusal, decodeRefusal, decodeBytes}
-use Rattle.decoder.specs.Decoded.{kindOf, said, values, Decodes}
-use Rattle.decoder.specs.declared.Kind.{Kind}
-use Rattle.decoder.specs.declared.Kind.the-variants.{Clean, Mended, Stalled, Spent}
+use Rattle.rounds.specs.Kind.{kindOf}
+use Rattle.decoder.specs.Decoded.{said, values, Decodes}
+use Rattle.rounds.specs.declared.Kind.{Kind}
+use Rattle.rounds.specs.declared.Kind.the-variants.{Clean, Mended, Stalled, Spent}
 use Rattle.decoder.specs.declared.Decoded.{Decoded}
 use Rattle.decoder.specs.declared.Decoded.the-variants.{Answered, Refused}
 use Rattle.symmetry.specs.Twice.{Word, Given, Related}

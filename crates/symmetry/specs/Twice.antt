@@ -11,7 +11,7 @@ use Rattle.book.specs.Book.{Book, isCodeWord}
 use Rattle.book.specs.Layout.{width, fieldOf, bookOf}
 use Rattle.book.specs.Conditions.{refusal}
 use Rattle.decoding.specs.Symmetry.{move}
-use Rattle.decoder.specs.declared.Kind.{Kind}
+use Rattle.rounds.specs.declared.Kind.{Kind}
 use Rattle.decoder.specs.declared.Decoded.the-variants.{Answered}
 use Rattle.symmetry.specs.declared.Two.{Two}
 

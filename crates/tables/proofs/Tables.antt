@@ -1,8 +1,8 @@
 -- What the layers above read off a widened word, a table and a product.
 -- Assumes nothing.
-use mathlib.Core.Path.{_≡_, refl, sym, ap, _∙_, subst}
+use mathlib.Core.Path.{_≡_, sym, ap, _∙_, subst}
 use mathlib.Core.List.{List}
-use Prim.Native.Nat.{ℕ, _+_, _*_, _%_, _^_, _≤_, _<_}
+use Prim.Native.Nat.{ℕ, _*_, _%_, _^_, _≤_, _<_}
 use native.Mathlib.Nat.{mod-lt, add-mod-right}
 use native.Mathlib.Decide.{decLt}
 use native.Mathlib.Omega.{arith}
@@ -11,16 +11,13 @@ use lib.Pow.{pow-pos, pow-mono}
 use Rattle.range.specs.Table.{table, padded}
 use Rattle.range.proofs.Loop.{padded-at, padded-reads}
 use Rattle.range.proofs.Table.{table-at, table-length}
-use Rattle.range.proofs.Count.{total-equal}
 use Rattle.field.specs.Symbols.{gf}
 use Rattle.field.proofs.Gf.{gf-laws}
-use Rattle.word.specs.Word.{at, weight, product}
+use Rattle.word.specs.Word.{at, product}
 use Rattle.word.proofs.Place.{period-mod}
 use Rattle.word.proofs.Product.{Periodic, product-period}
 use Rattle.array.specs.Stored.{place, Sizes, Stored}
 use Rattle.tables.specs.Multiples.{wordOf, Multiplied, entry}
-use Rattle.tables.specs.Support.{Lists}
-use Rattle.tables.specs.declared.Nonzeros.{Nonzeros}
 
 -- ---- a widened word
 
@@ -41,6 +38,10 @@ widened-at size n w low h j = padded-at size n (place w) h (mod-lt j low)
 pub table-fits : (p : ℕ) → p ≤ 6 → 128 * 2 ^ p ≤ 8192
 table-fits p h = let low : 2 ^ p ≤ 2 ^ 6 = pow-mono h in omega arith
 
+-- and 1024 every table of at most 8 symbols
+pub few-fits : (p : ℕ) → p ≤ 3 → 128 * 2 ^ p ≤ 1024
+few-fits p h = let low : 2 ^ p ≤ 2 ^ 3 = pow-mono h in omega arith
+
 pub wordOf-period : (n : ℕ) (t : List ℕ) → Periodic n (wordOf n t)
 unfolding wordOf
 wordOf-period n t j = ap (entry t 1) (add-mod-right j n)
@@ -53,10 +54,3 @@ unfolding at
 multiplied-at {p} {n} {b} {f} {r} s per h m =
     h .places (m % n) (mod-lt m (s .n-low))
     ∙ period-mod n (product (gf p) n b f) (product-period (gf p) (gf-laws p (s .p-low) (s .p-high)) n b f per) m
-
--- ---- a list of places
-
--- as many places are listed as the word's weight tells
-pub lists-weight : {n : ℕ} {b : ℕ → ℕ} {s : Nonzeros} → Lists n b s → s .count ≡ weight n b
-unfolding weight
-lists-weight {n} {b} {s} h = omega (arith, total-equal (s .count) 1 (λ i. 1) (λ i l. refl)) ∙ h .folds _+_ 0 (λ x. omega arith) (λ h. 1)

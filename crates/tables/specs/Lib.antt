@@ -1,4 +1,1 @@
 pub mod Multiples
-pub mod Support
-pub mod Lists
-pub mod Window

@@ -1,4 +1,4 @@
-// Products and divisions read off a table of multiples. Words stand in arrays of 64 or 128 places, of which only those below n, or below 2 * n, tell: loops
+// Tables of the multiples of a word, off which products and divisions are read. Words stand in arrays of 64 or 128 places, of which only those below n, or below 2 * n, tell: loops
 // of a fixed length are whole vector steps.
 ghost use mathlib.Core.Path.{_≡_};
 ghost use Prim.Native.Nat.{_+_, _*_, _^_, _≤_, _<_};
@@ -8,41 +8,14 @@ ghost use lib.ListN.{length};
 ghost use Rattle.range.specs.Fold.{all};
 ghost use Rattle.range.specs.Table.{table, padded};
 ghost use Rattle.field.specs.Symbols.{timesX};
-ghost use Rattle.word.specs.Word.{at};
 ghost use Rattle.array.specs.Stored.{place, Sizes, Stored};
-ghost use Rattle.tables.specs.Multiples.{Twofold, entry, wordOf, Multiples, Begun, RowStored, RowPut, Tabled, Multiplied};
-ghost use Rattle.tables.specs.Support.{Lists};
-
-pub mod division;
-pub mod lists;
-
-// The places where a word is not zero, in rising order.
-pub struct Nonzeros {
-    pub count: usize,
-    pub places: [u8; 64],
-}
+ghost use Rattle.tables.specs.Multiples.{Twofold, entry, Begun, RowStored, RowPut, Tabled};
 
 // A byte as an index.
 pub fn wide(x: u8) -> usize
     ensures { λ r. ⌜ r ≡ x ⌝ }
 {
     x as usize
-}
-
-// Lists the places below n where b is not zero: each place is written, and stays where the count goes on.
-pub fn support(n: usize, b: [u8; 63]) -> Nonzeros
-    requires { ⌜ n ≤ 63 ⌝ }
-    ensures { λ r. ⌜ Lists n (place b) r ⌝ }
-{
-    let mut places = [0u8; 64];
-    let mut count: usize = 0;
-    let mut h = 0;
-    while h < n {
-        places[count] = h as u8;
-        count += (b[h] != 0) as usize;
-        h += 1;
-    }
-    Nonzeros { count, places }
 }
 
 // A word of n symbols in 64 places.
@@ -87,7 +60,7 @@ pub fn doubled(p: u8, n: usize, w: [u8; 64]) -> [u8; 128]
 }
 
 // Rows 0 and 1 of a table: zero, and the word d.
-fn put_word(d: [u8; 128], t: &mut [u8])
+pub fn put_word(d: [u8; 128], t: &mut [u8])
     requires { ⌜ 256 ≤ length (now t) ⌝ }
     ensures { λ _. ⌜ Begun 128 d (now (t .entry)) (now (t .exit)) ⌝ }
 {
@@ -99,22 +72,45 @@ fn put_word(d: [u8; 128], t: &mut [u8])
     }
 }
 
+// Row c of a table, by value: a loop that reads and writes one slice is compiled step by step.
+fn row_at(c: usize, t: &[u8]) -> [u8; 128]
+    requires { ⌜ 128 * c + 128 ≤ length (now t) ⌝ }
+    ensures { λ r. ⌜ r ≡ table 128 (λ j. entry (now (t .entry)) c j) ⌝ }
+{
+    let from = 128 * c;
+    let mut row = [0u8; 128];
+    let mut j = 0;
+    while j < 128 {
+        row[j] = t[from + j];
+        j += 1;
+    }
+    row
+}
+
+// Row c of a table: x times a row.
+fn put_times_x(p: u8, row: [u8; 128], c: usize, t: &mut [u8])
+    requires { ⌜ (1 ≤ p) × (p ≤ 6) × (128 * c + 128 ≤ length (now t)) × Stored p 128 row ⌝ }
+    ensures { λ _. ⌜ RowPut c (λ j. timesX p (place row j)) (now (t .entry)) (now (t .exit)) ⌝ }
+{
+    let to = 128 * c;
+    let mut j = 0;
+    while j < 128 {
+        t[to + j] = field::double(p, row[j]);
+        j += 1;
+    }
+}
+
 // Row 2c of a table: x times row c.
 fn put_double(p: u8, c: usize, t: &mut [u8])
     requires { ⌜ (1 ≤ p) × (p ≤ 6) × (1 ≤ c) × (256 * c + 128 ≤ length (now t)) × RowStored p c (now t) ⌝ }
     ensures { λ _. ⌜ RowPut (2 * c) (λ j. timesX p (entry (now (t .entry)) c j)) (now (t .entry)) (now (t .exit)) ⌝ }
 {
-    let from = 128 * c;
-    let to = 256 * c;
-    let mut j = 0;
-    while j < 128 {
-        t[to + j] = field::double(p, t[from + j]);
-        j += 1;
-    }
+    let row = row_at(c, t);
+    put_times_x(p, row, 2 * c, t);
 }
 
 // Row 2c + 1 of a table: the word d added to row 2c.
-fn put_next(c: usize, d: [u8; 128], t: &mut [u8])
+pub fn put_next(c: usize, d: [u8; 128], t: &mut [u8])
     requires { ⌜ 256 * c + 256 ≤ length (now t) ⌝ }
     ensures { λ _. ⌜ RowPut (2 * c + 1) (λ j. bitXor (entry (now (t .entry)) (2 * c) j) (place d j)) (now (t .entry)) (now (t .exit)) ⌝ }
 {
@@ -144,7 +140,7 @@ pub fn tabulate(p: u8, n: usize, w: [u8; 64], t: &mut [u8])
 }
 
 // Adds 64 places of a table to a word.
-fn add_row(t: &[u8], from: usize, sum: &mut [u8; 64])
+pub fn add_row(t: &[u8], from: usize, sum: &mut [u8; 64])
     requires { ⌜ (from + 64 ≤ length (now t)) × (length (now sum) ≡ 64) ⌝ }
     ensures { λ _. ⌜ now (sum .exit) ≡ table 64 (λ j. bitXor (place (now (sum .entry)) j) (place (now (t .entry)) (from + j))) ⌝ }
 {
@@ -153,23 +149,6 @@ fn add_row(t: &[u8], from: usize, sum: &mut [u8; 64])
         sum[j] = sum[j] ^ t[from + j];
         j += 1;
     }
-}
-
-// The product of b, whose nonzero places are s, and the word of a table: for each of them, u, the row of b's symbol, turned by u.
-pub fn product(p: u8, n: usize, b: [u8; 63], s: Nonzeros, t: &[u8]) -> [u8; 64]
-    requires { ⌜ Sizes p n × Stored p n b × Lists n (place b) s × Multiples p n (now t) ⌝ }
-    ensures { λ r. ⌜ Multiplied p n (at n b) (wordOf n (now (t .entry))) r ⌝ }
-{
-    let count = s.count;
-    let places = s.places;
-    let mut sum = [0u8; 64];
-    let mut i = 0;
-    while i < count {
-        let u = wide(places[i]);
-        add_row(t, 128 * wide(b[u]) + (n - u), &mut sum);
-        i += 1;
-    }
-    sum
 }
 
 // Whether the places below n are all zero: the others are counted, with no branch.

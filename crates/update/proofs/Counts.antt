@@ -1,4 +1,4 @@
--- A count of at most 63 places fits 16 bits.
+-- A count of at most 64 places fits 16 bits.
 -- Assumes nothing.
 use mathlib.Core.Bool.{Bool, true, false}
 use Prim.Native.Nat.{ℕ, _+_, _≤_, _<_}
@@ -8,6 +8,6 @@ use mir.Val.{boolByte, Fits}
 use Rattle.range.proofs.Count.{count-le}
 use Rattle.array.proofs.Counted.{Counted}
 
-pub counted-fits : {n : ℕ} {p : ℕ → Bool} {j t : ℕ} → Counted n p j t → j < n → n ≤ 63 → (b : Bool) → Fits w16 (t + boolByte b)
+pub counted-fits : {n : ℕ} {p : ℕ → Bool} {j t : ℕ} → Counted n p j t → j < n → n ≤ 64 → (b : Bool) → Fits w16 (t + boolByte b)
 counted-fits {p = p} {j = j} h l f true = omega (arith, count-le j p)
 counted-fits {p = p} {j = j} h l f false = omega (arith, count-le j p)

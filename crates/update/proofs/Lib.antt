@@ -1,4 +1,6 @@
 pub mod Counts
+pub mod Search
+pub mod Limits
 pub mod Taking
 pub mod Sole
 pub mod Rule

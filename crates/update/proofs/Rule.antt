@@ -1,6 +1,6 @@
 -- The correction of a column by its peak's symbol and the two counts.
 -- Assumes nothing.
-use mathlib.Core.Path.{_≡_, refl, sym, ap, ap₂, _∙_, subst}
+use mathlib.Core.Path.{_≡_, sym, ap, ap₂, _∙_, subst}
 use mathlib.Core.Bool.{Bool, true, false, cond, _&&_}
 use mathlib.Core.List.{List}
 use Prim.Native.Nat.{ℕ, suc, pred, _+_, _*_, _^_, _<_}
@@ -8,11 +8,14 @@ use native.Mathlib.Nat.{zero-lt-suc, suc-lt-of-lt-pred, mod-eq-of-lt}
 use native.Mathlib.Omega.{arith}
 use lib.Dec.{T, eqb, leb, leb→le, le→leb, eqb→eq}
 use Rattle.range.specs.Fold.{indicator, largest}
+use Rattle.range.specs.Table.{padded}
 use Rattle.range.proofs.Tests.{eq→eqb, and-left, and-right, and-both}
 use Rattle.range.proofs.Fold.{fold-cong}
+use Rattle.range.proofs.Loop.{Held, padded-same}
 use Rattle.field.specs.Field.{FieldOps, FieldLaws}
 use Rattle.field.specs.Symbols.{gf}
 use Rattle.array.specs.Stored.{place}
+use Rattle.array.proofs.Filled.{held-end}
 use Rattle.book.specs.Book.{Book}
 use Rattle.decoding.specs.Matrix.{cell}
 use Rattle.decoding.specs.Decode.{peak, holders, zeroCount, peakCount, inUpdateSet, correction}
@@ -23,10 +26,6 @@ use Rattle.update.specs.Rule.{atMost, atLeast, admitted}
 chosen : (b : Bool) {e x : ℕ} → (T b → e ≡ x) → ((T b → ⊥) → x ≡ 0) → cond b e 0 ≡ x
 chosen true f g = f tt
 chosen false f g = sym (g (λ t. t))
-
-pub admitted-none : (places low high e : ℕ) → e ≡ 0 → 0 ≡ admitted places low high e
-unfolding admitted
-admitted-none places low high e z = sym (chosen (leb low places && leb high places) (λ _. z) (λ _. refl))
 
 module _ (F : FieldOps) (laws : FieldLaws F) (B : Book) (m : ℕ → ℕ → ℕ) (j : ℕ) where
   open FieldOps F using (q)
@@ -82,7 +81,13 @@ module _ (p : ℕ) (laws : FieldLaws (gf p)) (B : Book) (m counts symbols : List
         (subst (λ (f : ℕ → ℕ). Sole (pred (2 ^ p)) f (peak (gf p) B entries j) (place symbols j)) (sym (same-column j l))
         (subst (λ (y : ℕ). Sole (pred (2 ^ p)) (column n m j) y (place symbols j)) (peak-at j l) (h .symbol-at j l)))
 
-  pub corrections-at : {n′ places : ℕ} → n ≡ n′ → most-places ≡ places → Peaked n′ m (2 ^ p) counts symbols → (j : ℕ) → j < n′
+  corrections-at : {n′ places : ℕ} → n ≡ n′ → most-places ≡ places → Peaked n′ m (2 ^ p) counts symbols → (j : ℕ) → j < n′
       → admitted places (atMost n′ m (place m j)) (atLeast n′ counts (place counts j)) (place symbols j) ≡ correction (gf p) B (cell (gf p) B m) j
   unfolding entries
   corrections-at e d h j l = rw (← e, ← d) (at-book (rw (← e) at h) j (rw (← e) at l))
+
+  -- an array that holds what the counts admit holds the corrections
+  pub corrections-held : {n′ places j : ℕ} {w : List ℕ} → n ≡ n′ → most-places ≡ places → Peaked n′ m (2 ^ p) counts symbols → j ≡ n′
+      → Held 63 j (λ j. admitted places (atMost n′ m (place m j)) (atLeast n′ counts (place counts j)) (place symbols j)) w
+      → w ≡ padded 63 n′ (correction (gf p) B (cell (gf p) B m))
+  corrections-held e d h k f = held-end k f ∙ padded-same 63 _ (corrections-at e d h)

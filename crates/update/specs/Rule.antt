@@ -1,9 +1,11 @@
 -- The two counts of the update rule, and what they admit.
 -- Assumes nothing.
+use mathlib.Core.Path.{_≡_}
 use mathlib.Core.Bool.{cond, _&&_}
 use mathlib.Core.List.{List}
-use Prim.Native.Nat.{ℕ}
+use Prim.Native.Nat.{ℕ, _≤_, _<_}
 use lib.Dec.{leb}
+use lib.ListN.{length}
 use Rattle.range.specs.Fold.{count}
 use Rattle.array.specs.Stored.{place}
 
@@ -17,3 +19,9 @@ atLeast n a x = count n (λ k. leb x (place a k))
 -- the symbol e where neither count passes `places`, else 0
 unfoldable pub admitted : ℕ → ℕ → ℕ → ℕ → ℕ
 admitted places low high e = cond (leb low places && leb high places) e 0
+
+-- the first n numbers of a list in 64 places, and the number x in the others
+pub record Widened (n : ℕ) (a : List ℕ) (x : ℕ) (w : List ℕ) : Type 0 where
+  pub long : length w ≡ 64
+  pub at : (k : ℕ) → k < n → place w k ≡ place a k
+  pub rest : (k : ℕ) → n ≤ k → k < 64 → place w k ≡ x

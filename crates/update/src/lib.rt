@@ -1,15 +1,17 @@
 // The update rule: the corrections that a matrix asks for. Entry (i, j) of the matrix is at i * n + j.
 ghost use mathlib.Core.Path.{_≡_};
-ghost use Prim.Native.Nat.{_*_, _^_, _<_, _≤_, max};
+ghost use mathlib.Core.Bool.{cond, _&&_};
+ghost use Prim.Native.Nat.{ℕ, _*_, _^_, _<_, _≤_, max};
+ghost use lib.Dec.{leb, ltb};
 ghost use lib.ListN.{length};
 ghost use Rattle.range.specs.Table.{padded};
 ghost use Rattle.field.specs.Symbols.{gf};
-ghost use Rattle.array.specs.Stored.{place, Sizes};
+ghost use Rattle.array.specs.Stored.{Sizes};
 ghost use Rattle.book.specs.Book.{Book};
 ghost use Rattle.decoding.specs.Matrix.{cell};
 ghost use Rattle.decoding.specs.Decode.{correction};
 ghost use Rattle.update.specs.Column.{climbed, Taken, Peaked};
-ghost use Rattle.update.specs.Rule.{atMost, atLeast, admitted};
+ghost use Rattle.update.specs.Rule.{atMost, atLeast, Widened};
 
 // The peak of each column, and the one nonzero symbol that has it, or 0 where the peak is 0 or several have it.
 pub struct ColumnPeaks {
@@ -71,52 +73,98 @@ pub fn peaks(p: u8, n: usize, m: &[u16]) -> ColumnPeaks
     ColumnPeaks { counts, symbols }
 }
 
-// How many of the first n numbers are at most x.
-fn at_most(n: usize, a: &[u16], x: u16) -> u16
+// The first n numbers of a slice in 64 places, and `rest` in the others: a loop over all 64 is made of whole vectors.
+fn widened(n: usize, a: &[u16], rest: u16) -> [u16; 64]
     requires { ⌜ (n ≤ 63) × (n ≤ length (now a)) ⌝ }
-    ensures { λ r. ⌜ r ≡ atMost n (now (a .entry)) x ⌝ }
+    ensures { λ r. ⌜ Widened n (now (a .entry)) rest r ⌝ }
+{
+    let mut w = [rest; 64];
+    let mut j = 0;
+    while j < n {
+        w[j] = a[j];
+        j += 1;
+    }
+    w
+}
+
+// How many of 64 numbers are at most x.
+fn at_most(a: &[u16; 64], x: u16) -> u16
+    requires { ⌜ length (now a) ≡ 64 ⌝ }
+    ensures { λ r. ⌜ r ≡ atMost 64 (now (a .entry)) x ⌝ }
 {
     let mut count: u16 = 0;
     let mut j = 0;
-    while j < n {
+    while j < 64 {
         count += (a[j] <= x) as u16;
         j += 1;
     }
     count
 }
 
-// How many of the first n numbers are at least x.
-fn at_least(n: usize, a: [u16; 63], x: u16) -> u16
-    requires { ⌜ n ≤ 63 ⌝ }
-    ensures { λ r. ⌜ r ≡ atLeast n a x ⌝ }
+// How many of 64 numbers are at least x.
+fn at_least(a: &[u16; 64], x: u16) -> u16
+    requires { ⌜ length (now a) ≡ 64 ⌝ }
+    ensures { λ r. ⌜ r ≡ atLeast 64 (now (a .entry)) x ⌝ }
 {
     let mut count: u16 = 0;
     let mut j = 0;
-    while j < n {
+    while j < 64 {
         count += (x <= a[j]) as u16;
         j += 1;
     }
     count
 }
 
-// The symbol of column j where neither the count of row-0 entries at most that of j nor the count of peaks at least that of j passes `places`, else 0.
-fn correction_at(n: usize, places: usize, m: &[u16], counts: [u16; 63], symbol: u8, j: usize) -> u8
-    requires { ⌜ (n ≤ 63) × (n ≤ length (now m)) × (j < n) ⌝ }
-    ensures { λ r. ⌜ r ≡ admitted places (atMost n (now (m .entry)) (place (now (m .entry)) j)) (atLeast n counts (place counts j)) symbol ⌝ }
+// The number below which an entry of row 0 is admitted, found by halving: it is one of the `width` numbers from `limit` on.
+fn low_limit(n: usize, places: usize, a: &[u16]) -> u32
+    requires { ⌜ (n ≤ 63) × (n ≤ length (now a)) ⌝ }
+    ensures { λ r. ⌜ ((x : ℕ) → x < 65536 → leb (atMost n (now (a .entry)) x) places ≡ ltb x r) ⌝ }
 {
-    if symbol == 0 {
+    if n <= places {
+        return 65536;
+    }
+    let row = widened(n, a, 65535);
+    let mut limit: u32 = 0;
+    let mut width: u32 = 65536;
+    while 1 < width {
+        let half = width / 2;
+        let low = at_most(&row, (limit + half - 1) as u16) as usize;
+        if low <= places {
+            limit += half;
+        }
+        width -= half;
+    }
+    limit
+}
+
+// The number from which on a peak is admitted, found by halving: it is one of the `width` numbers from `limit` on.
+fn high_limit(n: usize, places: usize, a: [u16; 63]) -> u32
+    requires { ⌜ n ≤ 63 ⌝ }
+    ensures { λ r. ⌜ ((x : ℕ) → x < 65536 → leb (atLeast n a x) places ≡ leb r x) ⌝ }
+{
+    if n <= places {
         return 0;
     }
-    let low = at_most(n, m, m[j]) as usize;
-    if places < low {
-        return 0;
+    let peaks = widened(n, &a, 0);
+    let mut limit: u32 = 1;
+    let mut width: u32 = 65536;
+    while 1 < width {
+        let half = width / 2;
+        let high = at_least(&peaks, (limit + half - 1) as u16) as usize;
+        if places < high {
+            limit += half;
+        }
+        width -= half;
     }
-    let peak = counts[j];
-    let high = at_least(n, counts, peak) as usize;
-    if places < high {
-        return 0;
-    }
-    symbol
+    limit
+}
+
+// The symbol of a column where its entry of row 0 is below `low` and its peak at least `high`, else 0.
+fn chosen(low: u32, high: u32, entry: u16, peak: u16, symbol: u8) -> u8
+    ensures { λ r. ⌜ (r ≡ cond (ltb entry low && leb high peak) symbol 0) × (entry < 65536) × (peak < 65536) ⌝ }
+{
+    let inside = ((entry as u32) < low) & (high <= peak as u32);
+    if inside { symbol } else { 0 }
 }
 
 // The symbol to subtract at each place, 0 outside the update set; `places` is the most that either count may reach.
@@ -127,10 +175,12 @@ pub fn corrections(p: u8, n: usize, places: usize, m: &[u16]) -> [u8; 63]
     let best = peaks(p, n, m);
     let counts = best.counts;
     let symbols = best.symbols;
+    let low = low_limit(n, places, m);
+    let high = high_limit(n, places, counts);
     let mut e = [0u8; 63];
     let mut j = 0;
     while j < n {
-        e[j] = correction_at(n, places, m, counts, symbols[j], j);
+        e[j] = chosen(low, high, m[j], counts[j], symbols[j]);
         j += 1;
     }
     e

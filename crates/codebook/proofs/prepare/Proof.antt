@@ -1,7 +1,6 @@
 -- `codebook::prepare` meets its contract.
 -- Assumes nothing.
 use native.Mathlib.Omega.{arith}
-use Rattle.tables.proofs.Tables.{table-fits}
 use Rattle.codebook.proofs.Described.{params-sizes, generator-stored, book-size}
 use borrow.Author.Needs.{needs}
 use Rattle.codebook.proofs.prepare.Statement.{statement}
@@ -12,7 +11,7 @@ tabulate-requires c κs =
     let start = c .before .before .before in
     let d = start .pre .0 in
     let s = params-sizes _ _ d in
-    (s, omega (arith, book-size _ _ d, s .n-high), generator-stored _ _ d, omega (arith, table-fits _ (s .p-high), start .pre .1))
+    (s, omega (arith, book-size _ _ d, s .n-high), generator-stored _ _ d, start .pre .1)
 
 same-length : tie.Need-same-length
 same-length c = search needs

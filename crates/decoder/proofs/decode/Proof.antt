@@ -1,7 +1,10 @@
 -- `decoder::decode` meets its contract.
 -- Assumes nothing.
 use mathlib.Core.Path.{sym, _∙_}
+use native.Mathlib.Omega.{arith}
 use borrow.Author.Needs.{needs}
+use Rattle.tables.proofs.Tables.{table-fits}
+use Rattle.codebook.proofs.Described.{params-sizes}
 use Rattle.decoder.proofs.Answering.{decodes-refused, decodes-same, decode-refused, decode-accepted}
 use Rattle.decoder.proofs.decode.Statement.{statement}
 use Rattle.decoder.proofs.decode.Tie as tie
@@ -22,7 +25,9 @@ slice-aggregate-prepare : tie.Need-slice-aggregate-prepare
 slice-aggregate-prepare c = search needs
 
 prepare-requires : tie.Need-prepare-requires
-prepare-requires c κs = (c .before .before .describe .ensures, search needs)
+prepare-requires c κs =
+    let d = c .before .before .describe .ensures in
+    (d, omega (arith, table-fits _ (params-sizes _ _ d .p-high), c .before .table-room .ensures))
 
 slice-aggregate-decode-checked : tie.Need-slice-aggregate-decode-checked
 slice-aggregate-decode-checked c = search needs

@@ -6,7 +6,8 @@ use borrow.Author.Needs.{needs}
 use lib.Dec.{eqb→eq}
 use Rattle.inputs.proofs.Wrote.{wrote-refused, wrote-made}
 use Rattle.codebook.proofs.Described.{params-sizes}
-use Rattle.decoder.proofs.Stepping.{params-fillable, params-listable}
+use Rattle.matrix.proofs.Whole.{listable}
+use Rattle.rounds.proofs.Stepping.{params-fillable}
 use Rattle.decoder.proofs.Answering.{matrix-number, input, loaded-stored, loaded-listed, matrix-made}
 use Rattle.decoder.proofs.matrix_checked.Statement.{statement}
 use Rattle.decoder.proofs.matrix_checked.Tie as tie
@@ -31,27 +32,41 @@ load-requires c κs =
     let d = s .before .before .before .before .before .before .pre in
     (params-sizes _ _ d .n-high, omega (arith, input _ _ d _ _ (s .refusal .ensures) (s .before .order .ensures) (c .if1 .left) .size))
 
-room-requires : tie.Need-room-requires
-room-requires c κs = search needs
+powers-requires : tie.Need-powers-requires
+powers-requires c κs = let s = params-sizes _ _ (c .before .before .before .before .before .before .before .before .pre) in (s .p-low, s .p-high)
 
-slice-aggregate-list-places : tie.Need-slice-aggregate-list-places
-slice-aggregate-list-places c = search needs
+offset-room-requires : tie.Need-offset-room-requires
+offset-room-requires c κs = search needs
 
-list-places-requires : tie.Need-list-places-requires
-list-places-requires c κs =
-    (params-listable _ _ (c .before .before .before .before .before .before .before .before .before .before .pre), omega (arith, c .before .room .ensures))
+offset-room-requires-2 : tie.Need-offset-room-requires-2
+offset-room-requires-2 c κs = search needs
+
+slice-aggregate-list : tie.Need-slice-aggregate-list
+slice-aggregate-list c = search needs
+
+slice-aggregate-list-2 : tie.Need-slice-aggregate-list-2
+slice-aggregate-list-2 c = search needs
+
+list-requires : tie.Need-list-requires
+list-requires c κs =
+    (listable (params-fillable _ _ (c .before .before .before .before .before .before .before .before .before .before .before .before .before .before .pre)), omega (arith, c .before .before .before .offset-room .ensures), omega (arith, c .before .before .offset-room2 .ensures))
 
 slice-aggregate-fill : tie.Need-slice-aggregate-fill
 slice-aggregate-fill c = search needs
 
+slice-aggregate-fill-2 : tie.Need-slice-aggregate-fill-2
+slice-aggregate-fill-2 c = search needs
+
 fill-requires : tie.Need-fill-requires
 fill-requires c κs =
-    let s = c .before .before .before .before .before .before .before .before in
+    let l = c .before .before .before .before .before .before .before .before .before .before .before .before in
+    let s = l .before .before in
     let d = s .before .before .before .before .before .before .pre in
-    let i = input _ _ d _ _ (s .refusal .ensures) (s .before .order .ensures) (c .before .before .before .before .before .before .before .if1 .left) in (
+    let i = input _ _ d _ _ (s .refusal .ensures) (s .before .order .ensures) (l .before .if1 .left) in (
       params-fillable _ _ d,
-      c .before .before .before .list-places .ensures,
-      loaded-stored _ _ d _ _ (s .refusal .ensures) (s .before .order .ensures) (c .before .before .before .before .before .before .before .if1 .left) _ (c .before .before .before .before .before .before .load .ensures),
+      c .before .before .before .before .before .before .before .before .before .before .before .powers .ensures,
+      c .before .before .before .before .before .list .ensures,
+      loaded-stored _ _ d _ _ (s .refusal .ensures) (s .before .order .ensures) (l .before .if1 .left) _ (l .load .ensures),
       eqb→eq _ _ (i .sizes) ∙ s .before .before .matrix-size .ensures,
     )
 
@@ -60,11 +75,12 @@ same-length c = search needs
 
 returns-2 : tie.Need-returns-2
 returns-2 c =
-    let s = c .before .before .before .before .before .before .before .before .before .before .before in
+    let l = c .before .before .before .before .before .before .before .before .before .before .before .before .before .before .before in
+    let s = l .before .before in
     let d = s .before .before .before .before .before .before .pre in
-    let z = c .before .before .before .before .before .before .before .before .before .before .if1 .left in
+    let z = l .before .if1 .left in
     wrote-made (sym (matrix-number _ _ d _ _ (s .refusal .ensures) (s .before .order .ensures) (s .before .before .matrix-size .ensures)) ∙ z)
-    (matrix-made _ _ d _ _ _ (loaded-listed _ _ d _ _ (s .refusal .ensures) (s .before .order .ensures) z _ (c .before .before .before .before .before .before .before .before .before .load .ensures)) (c .before .before .fill .ensures))
+    (matrix-made _ _ d _ _ _ (loaded-listed _ _ d _ _ (s .refusal .ensures) (s .before .order .ensures) z _ (l .load .ensures)) (c .before .before .fill .ensures))
 
 pub matrix-checked-spec : {M : Type 1} → statement M
 matrix-checked-spec =
@@ -75,10 +91,14 @@ matrix-checked-spec =
     refusal-requires
     returns
     load-requires
-    room-requires
-    slice-aggregate-list-places
-    list-places-requires
+    powers-requires
+    offset-room-requires
+    offset-room-requires-2
+    slice-aggregate-list
+    slice-aggregate-list-2
+    list-requires
     slice-aggregate-fill
+    slice-aggregate-fill-2
     fill-requires
     same-length
     returns-2)

@@ -1,12 +1,10 @@
--- `shiftsum::shiftsum_decode` meets its contract.
+-- `shiftsum::shiftsum_decode` meets its contract: either room holds the table and the matrix.
 -- Assumes nothing.
-use mathlib.Core.Path.{_≡_, sym, _∙_}
-use Prim.Native.Nat.{_≤_}
+use mathlib.Core.Path.{sym, _∙_}
 use native.Mathlib.Omega.{arith}
-use lib.ListN.{length, take}
-use lib.Seq.{length-take-le}
+use Rattle.tables.proofs.Tables.{few-fits, table-fits}
 use Rattle.codebook.proofs.Described.{params-sizes, params-room}
-use Rattle.shiftsum.proofs.Room.{into-refused, into-decoded}
+use Rattle.shiftsum.proofs.Room.{into-refused, few-entries}
 use borrow.Author.Needs.{needs}
 use Rattle.shiftsum.proofs.shiftsum_decode.Statement.{statement}
 use Rattle.shiftsum.proofs.shiftsum_decode.Tie as tie
@@ -23,51 +21,59 @@ returns c = into-refused _ _ _ _ (c .before .refusal .ensures) (c .if1 .taken)
 describe-requires : tie.Need-describe-requires
 describe-requires c κs = sym (c .before .refusal .ensures) ∙ c .if1 .left
 
-table-room-requires : tie.Need-table-room-requires
-table-room-requires c κs = search needs
+few-room-requires : tie.Need-few-room-requires
+few-room-requires c κs = search needs
 
-slice-aggregate-prepare : tie.Need-slice-aggregate-prepare
-slice-aggregate-prepare c = search needs
+few-room-requires-2 : tie.Need-few-room-requires-2
+few-room-requires-2 c κs = search needs
 
-prepare-requires : tie.Need-prepare-requires
-prepare-requires c κs = (c .before .before .describe .ensures, search needs)
+slice-aggregate-decode-in : tie.Need-slice-aggregate-decode-in
+slice-aggregate-decode-in c = search needs
 
-matrix-size-requires : tie.Need-matrix-size-requires
-matrix-size-requires c κs = let s = params-sizes _ _ (c .before .before .before .before .describe .ensures) in (s .p-high, s .n-high)
+slice-aggregate-decode-in-2 : tie.Need-slice-aggregate-decode-in-2
+slice-aggregate-decode-in-2 c = search needs
 
-matrix-room-requires : tie.Need-matrix-room-requires
-matrix-room-requires c κs = search needs
-
-slice-aggregate-decode-checked : tie.Need-slice-aggregate-decode-checked
-slice-aggregate-decode-checked c = search needs
-
--- the matrix fits its room
-fits : (c : tie.After-matrix-room) → c .before .matrix-size .result ≤ length (c .matrix-room .result)
-fits c = omega (arith, c .matrix-room .ensures, c .before .matrix-size .ensures, params-room _ _ (c .before .before .before .before .before .before .describe .ensures))
-
-array-borrow-prefix-room : tie.Need-array-borrow-prefix-room
-array-borrow-prefix-room c = fits (c .before .before)
-
-slice-aggregate-decode-checked-2 : tie.Need-slice-aggregate-decode-checked-2
-slice-aggregate-decode-checked-2 c = sym (length-take-le _ _ (fits (c .before .before .before)))
-
-decode-checked-requires : tie.Need-decode-checked-requires
-decode-checked-requires c κs = let s = c .before .before .before .before .before .before in (s .before .before .before .describe .ensures, s .prepare .ensures)
-
-pack-decoded-requires : tie.Need-pack-decoded-requires
-pack-decoded-requires c κs = search needs
+decode-in-requires : tie.Need-decode-in-requires
+decode-in-requires c κs =
+    let found = c .before .before .before .before .before .before .before in
+    let d = found .describe .ensures in
+    let n = params-sizes _ _ d .n-high in (
+      d,
+      omega (arith, few-fits (found .describe .result .p) (omega (arith, c .before .before .before .before .before .if2 .taken)), c .before .before .before .before .few-room .ensures),
+      omega (arith, few-entries (found .describe .result .p) (omega (arith, c .before .before .before .before .before .if2 .taken)) n, c .before .before .before .few-room2 .ensures),
+    )
 
 same-length : tie.Need-same-length
 same-length c = search needs
 
 returns-2 : tie.Need-returns-2
-returns-2 c =
-    let room = c .before .before .before .before .before .before .before .before in
-    let found = room .before .before .before .before .before .before in
-    let size = room .before .matrix-size in
-    let exact : length (take (size .result) (room .matrix-room .result)) ≡ size .result = length-take-le _ _ (fits room) in
-    into-decoded _ _ (found .describe .ensures) _ _ _ (found .before .before .refusal .ensures) (found .before .if1 .left) (exact ∙ size .ensures)
-    (c .before .before .before .before .decode-checked .ensures) (c .pack-decoded .ensures)
+returns-2 c = c .before .before .before .before .decode-in .ensures
+
+table-room-requires : tie.Need-table-room-requires
+table-room-requires c κs = search needs
+
+matrix-room-requires : tie.Need-matrix-room-requires
+matrix-room-requires c κs = search needs
+
+slice-aggregate-decode-in-3 : tie.Need-slice-aggregate-decode-in-3
+slice-aggregate-decode-in-3 c = search needs
+
+slice-aggregate-decode-in-4 : tie.Need-slice-aggregate-decode-in-4
+slice-aggregate-decode-in-4 c = search needs
+
+decode-in-requires-2 : tie.Need-decode-in-requires-2
+decode-in-requires-2 c κs =
+    let d = c .before .before .before .before .before .before .before .describe .ensures in (
+      d,
+      omega (arith, table-fits _ (params-sizes _ _ d .p-high), c .before .before .before .before .table-room .ensures),
+      omega (arith, params-room _ _ d, c .before .before .before .matrix-room .ensures),
+    )
+
+same-length-2 : tie.Need-same-length-2
+same-length-2 c = search needs
+
+returns-3 : tie.Need-returns-3
+returns-3 c = c .before .before .before .before .decode-in2 .ensures
 
 pub shiftsum-decode-spec : {M : Type 1} → statement M
 shiftsum-decode-spec =
@@ -77,15 +83,17 @@ shiftsum-decode-spec =
     cast-result
     returns
     describe-requires
-    table-room-requires
-    slice-aggregate-prepare
-    prepare-requires
-    matrix-size-requires
-    matrix-room-requires
-    slice-aggregate-decode-checked
-    array-borrow-prefix-room
-    slice-aggregate-decode-checked-2
-    decode-checked-requires
-    pack-decoded-requires
+    few-room-requires
+    few-room-requires-2
+    slice-aggregate-decode-in
+    slice-aggregate-decode-in-2
+    decode-in-requires
     same-length
-    returns-2)
+    returns-2
+    table-room-requires
+    matrix-room-requires
+    slice-aggregate-decode-in-3
+    slice-aggregate-decode-in-4
+    decode-in-requires-2
+    same-length-2
+    returns-3)

@@ -4,8 +4,8 @@ use mathlib.Core.Path.{refl, sym}
 use native.Mathlib.Omega.{arith}
 use lib.Seq.{length-take-le}
 use denote.Ref.{now}
-use Rattle.stream.specs.Output.{openingRefusal}
-use Rattle.stream.proofs.Opened.{opening-silent, opening-accepted}
+use Rattle.output.specs.Output.{openingRefusal}
+use Rattle.output.proofs.Opened.{opening-silent, opening-accepted}
 use borrow.Author.Needs.{needs}
 use Rattle.stream.proofs.answer.Statement.{statement}
 use Rattle.stream.proofs.answer.Tie as tie

@@ -6,9 +6,9 @@ use native.Mathlib.Omega.{arith}
 use lib.ListN.{length}
 use borrow.Author.Tests.{not-false}
 use Rattle.codebook.proofs.Described.{params-sizes}
-use Rattle.stream.specs.Output.{mostWords}
-use Rattle.stream.specs.Reads.{Ready}
-use Rattle.stream.proofs.Blocks.{word-low}
+use Rattle.output.specs.Output.{mostWords}
+use Rattle.lines.specs.Ready.{Ready}
+use Rattle.output.proofs.Blocks.{word-low}
 use Rattle.stream.proofs.Reading.{read-more, read-next, read-all}
 use Rattle.stream.proofs.answer_words.Statement.{statement}
 use Rattle.stream.proofs.answer_words.Tie as tie

@@ -5,6 +5,7 @@ use Prim.Native.Nat.{_*_, _≤_}
 use native.Mathlib.Omega.{arith}
 use lib.ListN.{length, take}
 use lib.Seq.{length-take-le}
+use Rattle.tables.proofs.Tables.{table-fits}
 use Rattle.codebook.proofs.Described.{params-sizes, params-room}
 use borrow.Author.Needs.{needs}
 use Rattle.stream.proofs.serve.Statement.{statement}
@@ -20,7 +21,9 @@ slice-aggregate-prepare : tie.Need-slice-aggregate-prepare
 slice-aggregate-prepare c = search needs
 
 prepare-requires : tie.Need-prepare-requires
-prepare-requires c κs = (c .before .before .describe .ensures, search needs)
+prepare-requires c κs =
+    let d = c .before .before .describe .ensures in
+    (d, omega (arith, table-fits _ (params-sizes _ _ d .p-high), c .before .table-room .ensures))
 
 matrix-size-requires : tie.Need-matrix-size-requires
 matrix-size-requires c κs = let s = params-sizes _ _ (c .before .before .before .before .describe .ensures) in (s .p-high, s .n-high)

@@ -1,82 +1,45 @@
--- `tables::put_double` meets its contract. The invariant: the places of row 2c below j are written; row c stands below them, as it was.
+-- `tables::put_double` meets its contract.
 -- Assumes nothing.
-use mathlib.Core.Path.{sym, ap, _∙_, subst}
-use Prim.Native.Nat.{ℕ, _-_, _^_, _≤_, _<_}
+use mathlib.Core.Path.{_≡_, sym, ap, _∙_, subst}
+use mathlib.Core.List.{List}
+use Prim.Native.Nat.{ℕ, _^_, _<_}
 use native.Mathlib.Omega.{arith}
+use Rattle.range.specs.Table.{table}
+use Rattle.range.proofs.Table.{table-at}
 use Rattle.field.specs.Symbols.{timesX}
-use Rattle.tables.specs.Multiples.{entry}
-use Rattle.tables.proofs.Window.{Window, window-none, window-more}
-use Rattle.tables.proofs.Rows.{row-put}
+use Rattle.array.specs.Stored.{place, Stored}
+use Rattle.tables.specs.Multiples.{entry, RowStored, RowPut}
 use borrow.Author.Needs.{needs}
 use Rattle.tables.proofs.put_double.Statement.{statement}
 use Rattle.tables.proofs.put_double.Tie as tie
 
-abbrev Inv-loop : tie.InvT-loop
-Inv-loop p c t₀ from to j₀ t j = (j ≤ 128) × Window to j (λ j. timesX p (entry t₀ c j)) t₀ t
+module _ (c : ℕ) (t : List ℕ) {row : List ℕ} (e : row ≡ table 128 (λ j. entry t c j)) where
+  row-is : (j : ℕ) → j < 128 → place row j ≡ entry t c j
+  row-is j l = ap (λ (r : List ℕ). place r j) e ∙ table-at 128 (λ j. entry t c j) l
 
-abbrev μ-loop : tie.MeasureT-loop
-μ-loop p c t₀ from to j₀ t j = 128 - j
+  row-stored : {p : ℕ} → RowStored p c t → Stored p 128 row
+  row-stored {p} h = record { symbol = λ j l. subst (λ (x : ℕ). x < 2 ^ p) (sym (row-is j l)) (h .symbol j l) }
 
-mul-from : tie.Need-mul-from Inv-loop μ-loop
-mul-from c = search needs
+  doubled-row : (p : ℕ) {t′ : List ℕ} {k : ℕ} → RowPut k (λ j. timesX p (place row j)) t t′ → RowPut k (λ j. timesX p (entry t c j)) t t′
+  doubled-row p h = record { long = h .long; row = λ j l. h .row j l ∙ ap (timesX p) (row-is j l); low = h .low; high = h .high }
 
-mul-to : tie.Need-mul-to Inv-loop μ-loop
-mul-to c = search needs
+row-at-requires : tie.Need-row-at-requires
+row-at-requires c κs = search needs
 
-loop-holds : tie.Need-loop-holds Inv-loop μ-loop
-loop-holds c = (search needs, window-none _ _ _)
+mul-put-times-x : tie.Need-mul-put-times-x
+mul-put-times-x c = search needs
 
-add-double : tie.Need-add-double Inv-loop μ-loop
-add-double c = search needs
+put-times-x-requires : tie.Need-put-times-x-requires
+put-times-x-requires c κs =
+    let s = c .before .before .before .before in
+    (s .pre .0, s .pre .1, omega (arith, s .pre .3), row-stored _ _ (c .before .row-at .ensures) (s .pre .4))
 
-slice-read-double : tie.Need-slice-read-double Inv-loop μ-loop
-slice-read-double c = search needs
+same-length : tie.Need-same-length
+same-length c = search needs
 
-double-requires : tie.Need-double-requires Inv-loop μ-loop
-double-requires c κs =
-    let start = c .before .before .before .before in
-    let s = start .pre in
-    (s .0, s .1, subst (λ (x : ℕ). x < 2 ^ start .args .p) (sym (c .before .before .loop .inv .1 .low _ (omega arith))) (s .4 .symbol _ (omega arith)))
-
-add-t : tie.Need-add-t Inv-loop μ-loop
-add-t c = search needs
-
-slice-write-t : tie.Need-slice-write-t Inv-loop μ-loop
-slice-write-t c = search needs
-
-add-j : tie.Need-add-j Inv-loop μ-loop
-add-j c = search needs
-
-loop-less : tie.Need-loop-less Inv-loop μ-loop
-loop-less c = search needs
-
-loop-again : tie.Need-loop-again Inv-loop μ-loop
-loop-again c =
-    let l = c .before .before .before .loop in
-    (search needs, window-more _ (omega arith) (c .double .ensures .0 ∙ ap (timesX _) (l .inv .1 .low _ (omega arith))) (l .inv .1))
-
-same-length : tie.Need-same-length Inv-loop μ-loop
-same-length c = c .before .loop .inv .1 .long
-
-returns : tie.Need-returns Inv-loop μ-loop
-returns c = row-put (omega arith) (omega arith) (c .before .loop .inv .1)
+returns : tie.Need-returns
+returns c = doubled-row _ _ (c .before .before .before .before .row-at .ensures) _ (c .before .before .put-times-x .ensures)
 
 pub put-double-spec : {M : Type 1} → statement M
 put-double-spec =
-    tie.close
-    (tie.spec
-    Inv-loop
-    μ-loop
-    mul-from
-    mul-to
-    loop-holds
-    add-double
-    slice-read-double
-    double-requires
-    add-t
-    slice-write-t
-    add-j
-    loop-less
-    loop-again
-    same-length
-    returns)
+    tie.close (tie.spec row-at-requires mul-put-times-x put-times-x-requires same-length returns)

@@ -12,10 +12,10 @@ use Rattle.update.proofs.at_least.Statement.{statement}
 use Rattle.update.proofs.at_least.Tie as tie
 
 abbrev Inv-loop : tie.InvT-loop
-Inv-loop n x a count₀ j₀ count j = Counted n (λ k. leb x (place a k)) j count
+Inv-loop a x count₀ j₀ count j = Counted 64 (λ k. leb x (place a k)) j count
 
 abbrev μ-loop : tie.MeasureT-loop
-μ-loop n x a count₀ j₀ count j = n - j
+μ-loop a x count₀ j₀ count j = 64 - j
 
 loop-holds : tie.Need-loop-holds Inv-loop μ-loop
 loop-holds c = counted-none _ _
@@ -23,14 +23,14 @@ loop-holds c = counted-none _ _
 mul-count : tie.Need-mul-count Inv-loop μ-loop
 mul-count c = search needs
 
-array-read-count : tie.Need-array-read-count Inv-loop μ-loop
-array-read-count c = search needs
+element-copy-out-count : tie.Need-element-copy-out-count Inv-loop μ-loop
+element-copy-out-count c = search needs
 
 cast-count : tie.Need-cast-count Inv-loop μ-loop
 cast-count c = search needs
 
 add-count : tie.Need-add-count Inv-loop μ-loop
-add-count c = search (needs, counted-fits (c .before .loop .inv))
+add-count c = search (needs, counted-fits (c .before .before .loop .inv))
 
 add-j : tie.Need-add-j Inv-loop μ-loop
 add-j c = search needs
@@ -39,7 +39,7 @@ loop-less : tie.Need-loop-less Inv-loop μ-loop
 loop-less c = search needs
 
 loop-again : tie.Need-loop-again Inv-loop μ-loop
-loop-again c = counted-more (c .before .loop .inv) (omega arith)
+loop-again c = counted-more (c .before .before .loop .inv) (omega arith)
 
 returns : tie.Need-returns Inv-loop μ-loop
 unfolding atLeast
@@ -53,7 +53,7 @@ at-least-spec =
     μ-loop
     loop-holds
     mul-count
-    array-read-count
+    element-copy-out-count
     cast-count
     add-count
     add-j

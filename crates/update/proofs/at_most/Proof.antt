@@ -12,10 +12,10 @@ use Rattle.update.proofs.at_most.Statement.{statement}
 use Rattle.update.proofs.at_most.Tie as tie
 
 abbrev Inv-loop : tie.InvT-loop
-Inv-loop n a x count₀ j₀ count j = Counted n (λ k. leb (place a k) x) j count
+Inv-loop a x count₀ j₀ count j = Counted 64 (λ k. leb (place a k) x) j count
 
 abbrev μ-loop : tie.MeasureT-loop
-μ-loop n a x count₀ j₀ count j = n - j
+μ-loop a x count₀ j₀ count j = 64 - j
 
 loop-holds : tie.Need-loop-holds Inv-loop μ-loop
 loop-holds c = counted-none _ _
@@ -23,8 +23,8 @@ loop-holds c = counted-none _ _
 mul-count : tie.Need-mul-count Inv-loop μ-loop
 mul-count c = search needs
 
-shared-slice-read-count : tie.Need-shared-slice-read-count Inv-loop μ-loop
-shared-slice-read-count c = search needs
+element-copy-out-count : tie.Need-element-copy-out-count Inv-loop μ-loop
+element-copy-out-count c = search needs
 
 cast-count : tie.Need-cast-count Inv-loop μ-loop
 cast-count c = search needs
@@ -53,7 +53,7 @@ at-most-spec =
     μ-loop
     loop-holds
     mul-count
-    shared-slice-read-count
+    element-copy-out-count
     cast-count
     add-count
     add-j

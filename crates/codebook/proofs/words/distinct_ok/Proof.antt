@@ -1,60 +1,55 @@
--- `codebook::words::distinct_ok` meets its contract. The invariant: no dual word below l is like one before it.
+-- `codebook::words::distinct_ok` meets its contract: by the signatures, or by comparing.
 -- Assumes nothing.
-use mathlib.Core.Path.{sym, ap, _∙_}
-use mathlib.Core.Bool.{not}
-use Prim.Native.Nat.{_-_}
-use lib.ListN.{length}
-use Rattle.range.specs.Fold.{all}
-use Rattle.range.proofs.Loop.{Passing, passing-none, passing-more, passing-fails, passing-end}
-use Rattle.book.specs.Layout.{width, dualCount, fieldOf, bookOf}
-use Rattle.book.specs.Conditions.{alike, distinctOk}
+use mathlib.Core.Path.{sym, _∙_}
+use native.Mathlib.Omega.{arith}
 use borrow.Author.Needs.{needs}
+use Rattle.codebook.proofs.Signed.{distinct}
 use Rattle.codebook.proofs.words.distinct_ok.Statement.{statement}
 use Rattle.codebook.proofs.words.distinct_ok.Tie as tie
 
-abbrev Inv-loop : tie.InvT-loop
-Inv-loop n book count l₀ l = Passing (dualCount width (length book)) (λ l. all l (λ m. not (alike (fieldOf book) (bookOf width book) l m))) l
-
-abbrev μ-loop : tie.MeasureT-loop
-μ-loop n book count l₀ l = count - l
-
-dual-count-requires : tie.Need-dual-count-requires Inv-loop μ-loop
+dual-count-requires : tie.Need-dual-count-requires
 dual-count-requires c κs = search needs
 
-loop-holds : tie.Need-loop-holds Inv-loop μ-loop
-loop-holds c = passing-none _ _
+factors-requires : tie.Need-factors-requires
+factors-requires c κs = search needs
 
-seen-before-requires : tie.Need-seen-before-requires Inv-loop μ-loop
-seen-before-requires c κs = search needs
+slice-aggregate-signatures : tie.Need-slice-aggregate-signatures
+slice-aggregate-signatures c = search needs
 
-returns : tie.Need-returns Inv-loop μ-loop
-unfolding distinctOk bookOf
-returns c = passing-fails (c .before .before .before .loop .inv) (search needs) (sym (c .before .seen-before .ensures) ∙ ap not (c .if1 .taken))
+signatures-requires : tie.Need-signatures-requires
+signatures-requires c κs = search needs
 
-add-l : tie.Need-add-l Inv-loop μ-loop
-add-l c = search needs
+slice-aggregate-all-differ : tie.Need-slice-aggregate-all-differ
+slice-aggregate-all-differ c = search needs
 
-loop-less : tie.Need-loop-less Inv-loop μ-loop
-loop-less c = search needs
+all-differ-requires : tie.Need-all-differ-requires
+all-differ-requires c κs = search needs
 
-loop-again : tie.Need-loop-again Inv-loop μ-loop
-loop-again c = passing-more (c .before .before .before .loop .inv) (search needs) (sym (c .before .seen-before .ensures) ∙ ap not (c .if1 .left))
+returns : tie.Need-returns
+returns c =
+    let s = c .before .before .before in
+    let f = s .before .before in
+    let l = f .before in
+    let h = l .before .before .pre in
+    distinct (h .0) (h .1) (f .factors .result) (f .factors .ensures .1) (omega arith) (l .dual-count .ensures .0) (s .signatures .ensures)
+    (sym (c .before .all-differ .ensures) ∙ c .if1 .taken)
 
-returns-2 : tie.Need-returns-2 Inv-loop μ-loop
-unfolding distinctOk bookOf
-returns-2 c = passing-end (c .before .loop .inv) (search needs)
+pairs-ok-requires : tie.Need-pairs-ok-requires
+pairs-ok-requires c κs = search needs
+
+returns-2 : tie.Need-returns-2
+returns-2 c = search needs
 
 pub distinct-ok-spec : {M : Type 1} → statement M
 distinct-ok-spec =
     tie.close
     (tie.spec
-    Inv-loop
-    μ-loop
     dual-count-requires
-    loop-holds
-    seen-before-requires
+    factors-requires
+    slice-aggregate-signatures
+    signatures-requires
+    slice-aggregate-all-differ
+    all-differ-requires
     returns
-    add-l
-    loop-less
-    loop-again
+    pairs-ok-requires
     returns-2)

@@ -4,7 +4,7 @@ use mathlib.Core.Path.{_∙_}
 use native.Mathlib.Omega.{arith}
 use borrow.Author.Tests.{le-leb, lt-leb, eq-eqb, ne-eqb}
 use Rattle.field.specs.Symbols.{gf}
-use Rattle.tables.proofs.Degree.{divides-by}
+use Rattle.division.proofs.Degree.{divides-by}
 use Rattle.codebook.specs.Params.{generatorTest}
 use borrow.Author.Needs.{needs}
 use Rattle.codebook.proofs.words.generator_ok.Statement.{statement}

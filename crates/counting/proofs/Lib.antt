@@ -1,0 +1,6 @@
+pub mod Raised
+pub mod Summing
+pub mod RowLeft
+pub mod Whole
+pub mod Listing
+pub mod Offsets

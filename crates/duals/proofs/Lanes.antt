@@ -1,0 +1,101 @@
+-- The symbols of a byte: through sums, through shifts, and of lists of bytes.
+-- Assumes nothing.
+use mathlib.Core.Path.{_≡_, sym, ap, _∙_, subst}
+use mathlib.Core.Bool.{Bool, true, false, cond}
+use mathlib.Core.List.{List}
+use Prim.Native.Nat.{ℕ, _+_, _-_, _*_, _/_, _%_, _^_, _≤_, _<_}
+use native.Mathlib.Nat.{zero-mod, zero-div, mod-lt, mul-le-mul-left}
+use native.Mathlib.Decide.{decLt}
+use native.Mathlib.Omega.{arith}
+use lib.Bits.{bitXor, bitAnd, and-le-r, xor-shr, xor-mod}
+use lib.Dec.{eqb}
+use lib.ListN.{length, List·getD-eq-default}
+use lib.Pow.{pow-pos}
+use mir.Syntax.{w8}
+use mir.Val.{Fits}
+use Rattle.range.proofs.Table.{table-at, table-length}
+use Rattle.word.specs.Word.{at}
+use Rattle.array.specs.Stored.{place}
+use Rattle.tables.specs.Multiples.{Twofold, Begun, RowPut}
+use Rattle.duals.specs.Lanes.{lane, lanes, lowDigits, otherDigits, doubleAll}
+
+module _ (p i : ℕ) where
+  pub lane-zero : lane p i 0 ≡ 0
+  unfolding lane
+  lane-zero = ap (λ (x : ℕ). x % 2 ^ p) (zero-div (2 ^ (p * i))) ∙ zero-mod (2 ^ p)
+
+  pub lane-xor : (x y : ℕ) → lane p i (bitXor x y) ≡ bitXor (lane p i x) (lane p i y)
+  unfolding lane
+  lane-xor x y = ap (λ (z : ℕ). z % 2 ^ p) (xor-shr x y (p * i)) ∙ xor-mod (x / 2 ^ (p * i)) (y / 2 ^ (p * i)) p
+
+  pub lane-lt : (x : ℕ) → lane p i x < 2 ^ p
+  unfolding lane
+  lane-lt x = mod-lt (x / 2 ^ (p * i)) (pow-pos p)
+
+  -- ---- lists
+
+  pub lanes-length : (t : List ℕ) → length (lanes p i t) ≡ length t
+  unfolding lanes
+  lanes-length t = table-length (length t) _
+
+  pub lanes-at : (t : List ℕ) (k : ℕ) → place (lanes p i t) k ≡ lane p i (place t k)
+  unfolding lanes
+  lanes-at t k = go (decLt k (length t))
+    where
+      go : Dec (k < length t) → place (lanes p i t) k ≡ lane p i (place t k)
+      go (yes l) = table-at (length t) (λ k. lane p i (place t k)) l
+      go (no l) =
+          List·getD-eq-default (lanes p i t) 0 (omega (arith, table-length (length t) (λ k. lane p i (place t k))))
+          ∙ sym (ap (lane p i) (List·getD-eq-default t 0 (omega arith)) ∙ lane-zero)
+
+  pub lanes-word : (n : ℕ) (w : List ℕ) (j : ℕ) → at n (lanes p i w) j ≡ lane p i (at n w j)
+  unfolding at
+  lanes-word n w j = lanes-at w (j % n)
+
+  pub lanes-twofold : {s n : ℕ} {w d : List ℕ} → Twofold s n w d → Twofold p n (lanes p i w) (lanes p i d)
+  lanes-twofold {n = n} {w = w} {d = d} h =
+      record {
+        symbols = record { symbol = λ j l. subst (λ (x : ℕ). x < 2 ^ p) (sym (lanes-at d j)) (lane-lt (place d j)) };
+        places = λ j l. lanes-at d j ∙ ap (lane p i) (h .places j l) ∙ sym (lanes-word n w j);
+      }
+
+  pub lanes-begun : {n : ℕ} {d t₀ t : List ℕ} → Begun n d t₀ t → Begun n (lanes p i d) (lanes p i t₀) (lanes p i t)
+  lanes-begun {d = d} {t₀ = t₀} {t = t} h =
+      record {
+        long = lanes-length t ∙ h .long ∙ sym (lanes-length t₀);
+        zeros = λ j l. lanes-at t j ∙ ap (lane p i) (h .zeros j l) ∙ lane-zero;
+        word = λ j l. lanes-at t (128 * 1 + j) ∙ ap (lane p i) (h .word j l) ∙ sym (lanes-at d j);
+      }
+
+  pub lanes-put : {c : ℕ} {f g : ℕ → ℕ} {t₀ t : List ℕ} → ((j : ℕ) → j < 128 → lane p i (f j) ≡ g j) → RowPut c f t₀ t
+      → RowPut c g (lanes p i t₀) (lanes p i t)
+  lanes-put {c = c} {t₀ = t₀} {t = t} e h =
+      record {
+        long = lanes-length t ∙ h .long ∙ sym (lanes-length t₀);
+        row = λ j l. lanes-at t (128 * c + j) ∙ ap (lane p i) (h .row j l) ∙ e j l;
+        low = λ k l. lanes-at t k ∙ ap (lane p i) (h .low k l) ∙ sym (lanes-at t₀ k);
+        high = λ k l. lanes-at t k ∙ ap (lane p i) (h .high k l) ∙ sym (lanes-at t₀ k);
+      }
+
+-- ---- x times all symbols of a byte, as the code has it
+
+pub rest-fits : (p : ℕ) {others : ℕ} → others ≡ otherDigits p → (x : ℕ) → Fits w8 (bitAnd x others + bitAnd x others)
+unfolding otherDigits
+rest-fits p {others} e x = omega (arith, and-le-r x others, go (eqb p 2))
+  where
+    go : (b : Bool) → cond b 85 27 ≤ 85
+    go true = omega arith
+    go false = omega arith
+
+pub top-fits : (p : ℕ) {ones : ℕ} → ones ≡ lowDigits p → (x m : ℕ) → m ≤ 3 → Fits w8 (bitAnd x ones * m)
+unfolding lowDigits
+top-fits p {ones} e x m l = let b = mul-le-mul-left (bitAnd x ones) l in omega (arith, b, and-le-r x ones, go (eqb p 2))
+  where
+    go : (b : Bool) → cond b 85 9 ≤ 85
+    go true = omega arith
+    go false = omega arith
+
+pub double-value : (p : ℕ) {x y ones others : ℕ} → x ≡ y → ones ≡ lowDigits p → others ≡ otherDigits p
+    → bitXor (bitAnd x others + bitAnd x others) (bitAnd (x / 2 ^ (p - 1)) ones * 3) ≡ doubleAll p y
+unfolding doubleAll
+double-value p e f g = rw (e, f, g)

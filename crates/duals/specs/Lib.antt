@@ -1,0 +1,3 @@
+pub mod Duals
+pub mod Rows
+pub mod Lanes

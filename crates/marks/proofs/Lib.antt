@@ -1,0 +1,6 @@
+pub mod Marking
+pub mod Turning
+pub mod Gathering
+pub mod Dual
+pub mod Tallying
+pub mod Received

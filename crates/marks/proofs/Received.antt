@@ -1,0 +1,21 @@
+-- The received word, widened for its table of multiples, is the word of the table.
+-- Assumes nothing.
+use mathlib.Core.Path.{_≡_, sym, ap, _∙_, fun-ext, subst}
+use mathlib.Core.List.{List}
+use Prim.Native.Nat.{ℕ}
+use native.Mathlib.Omega.{arith}
+use Rattle.range.specs.Table.{padded}
+use Rattle.word.specs.Word.{at}
+use Rattle.array.specs.Stored.{place, Sizes, Stored}
+use Rattle.tables.specs.Multiples.{wordOf, Tabled}
+use Rattle.tables.proofs.Tables.{widened-stored, widened-at}
+
+module _ {p n : ℕ} (s : Sizes p n) (r : List ℕ) {w : List ℕ} (e : w ≡ padded 64 n (place r)) where
+  -- it has symbols only
+  pub word-stored : Stored p n r → Stored p 64 w
+  word-stored ok = subst (Stored p 64) (sym e) (widened-stored p 64 n r (omega (arith, s .n-high)) ok)
+
+  -- and is read from the table
+  pub word-read : {t₀ t : List ℕ} → Tabled p n w t₀ t → wordOf n t ≡ at n r
+  word-read h =
+      fun-ext (λ j. h .word j ∙ ap (λ (w : List ℕ). at n w j) e ∙ widened-at 64 n r (s .n-low) (omega (arith, s .n-high)) j)

@@ -1,0 +1,3 @@
+pub mod Shifted
+pub mod Product
+pub mod Division

@@ -1,0 +1,3 @@
+pub mod Reached
+pub mod Laws
+pub mod Logging

@@ -1,0 +1,9 @@
+pub mod Rows
+pub mod Offsetting
+pub mod Column
+pub mod Cells
+pub mod Terms
+pub mod Gathering
+pub mod Duals
+pub mod Division
+pub mod Whole

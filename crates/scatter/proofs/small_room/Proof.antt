@@ -1,0 +1,12 @@
+-- `scatter::small_room` meets its contract.
+-- Assumes nothing.
+use Rattle.range.proofs.Loop.{zero-at}
+use borrow.Author.Needs.{needs}
+use Rattle.scatter.proofs.small_room.Statement.{statement}
+use Rattle.scatter.proofs.small_room.Tie as tie
+
+returns : tie.Need-returns
+returns c = (search needs, λ k. zero-at 3072 k)
+
+pub small-room-spec : {M : Type 1} → statement M
+small-room-spec = tie.close (tie.spec returns)
