@@ -6,7 +6,7 @@ ghost use lib.Dec.{eqb};
 ghost use lib.ListN.{length};
 ghost use Rattle.range.specs.Fold.{all};
 ghost use Rattle.range.specs.Table.{table, padded};
-ghost use Rattle.word.specs.Word.{weight, distance};
+ghost use Rattle.word.specs.Word.{distance};
 ghost use Rattle.array.specs.Stored.{place};
 
 // The n bytes of a slice that start at `start`, as a word.
@@ -62,20 +62,6 @@ pub fn is_zero(n: usize, w: [u8; 63]) -> bool
         j += 1;
     }
     ok
-}
-
-// The count of nonzero symbols.
-pub fn weight(n: usize, w: [u8; 63]) -> usize
-    requires { ⌜ n ≤ 63 ⌝ }
-    ensures { λ r. ⌜ (r ≡ weight n (place w)) × (r ≤ n) ⌝ }
-{
-    let mut count: usize = 0;
-    let mut j = 0;
-    while j < n {
-        count += (w[j] != 0) as usize;
-        j += 1;
-    }
-    count
 }
 
 // The count of places where two words differ, in a byte, which is wide enough and makes the widest vector steps.

@@ -30,7 +30,7 @@ use Rattle.tables.specs.Multiples.{wordOf}
 use Rattle.division.proofs.Degree.{divides-by}
 use Rattle.codebook.specs.Params.{Tabulated, Describes}
 use Rattle.codebook.specs.declared.Params.{Params}
-use Rattle.codebook.proofs.Tested.{readable}
+use Rattle.records.proofs.Tested.{readable}
 use Rattle.codebook.proofs.Reading.{sized, generator-is}
 
 -- a code word is one by its places below n

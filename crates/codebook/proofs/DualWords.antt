@@ -24,7 +24,7 @@ use Rattle.book.proofs.Accepting.{body-symbol, body-zero}
 use Rattle.duals.specs.Duals as duals
 use Rattle.duals.specs.Duals.{generatorWord, dualWord, weightOk, productOk, Lying, Table}
 use Rattle.codebook.specs.Params.{Read, Tabulated}
-use Rattle.codebook.proofs.Tested.{failed, passed}
+use Rattle.records.proofs.Tested.{failed, passed}
 use Rattle.codebook.proofs.Reading.{generator-body, dual-body, read-sizes}
 
 -- the parts of a test change places
@@ -32,6 +32,7 @@ exchange : (a b c : Bool) → a && b && c ≡ a && c && b
 exchange a b c = tests .assoc a b c ∙ ap (a &&_) (tests .comm b c) ∙ sym (tests .assoc a c b)
 
 module _ {bytes : List ℕ} {p n : ℕ} {g : List ℕ} (h : Read bytes p n g) {count : ℕ} (e : count ≡ dualCount width (length bytes)) where
+  -- the dual words where they lie
   pub lying : Lying bytes n count
   lying =
       record {
@@ -42,6 +43,7 @@ module _ {bytes : List ℕ} {p n : ℕ} {g : List ℕ} (h : Read bytes p n g) {c
         zero = λ l j b a k. body-zero width bytes (dualAt width l) (dual-body (h .readable) l (omega arith)) j k (omega (arith, h .sized .n-is));
       }
 
+  -- their symbols, and those of the generator
   pub tested : duals.Tested bytes p n count
   tested =
       record {
@@ -72,10 +74,11 @@ module _ {bytes : List ℕ} {p n : ℕ} {g : List ℕ} (h : Read bytes p n g) {c
       sym (fold-op _&&_ true tests count (weightOk n bytes) (productOk p n bytes)) ∙ fold-cong _&&_ true count (λ l b. test-is l)
       ∙ ap (λ (m : ℕ). all m (dualOk (fieldOf bytes) (bookOf width bytes))) e
 
-  -- the first test fails, or the second decides
+  -- the first test fails
   pub weights-fail : {r : Bool} → r ≡ all count (weightOk n bytes) → not r ≡ true → false ≡ dualsOk (fieldOf bytes) (bookOf width bytes)
   weights-fail s f = ap (λ (t : Bool). t && all count (productOk p n bytes)) (sym (failed s f)) ∙ duals-test
 
+  -- or the second decides
   pub products-decide : {r v : Bool} → r ≡ all count (weightOk n bytes) → not r ≡ false → v ≡ all count (productOk p n bytes)
       → v ≡ dualsOk (fieldOf bytes) (bookOf width bytes)
   products-decide s f d = d ∙ ap (λ (t : Bool). t && all count (productOk p n bytes)) (sym (passed s f)) ∙ duals-test

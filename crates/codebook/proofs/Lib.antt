@@ -1,5 +1,3 @@
-pub mod Bounded
-pub mod Tested
 pub mod Reading
 pub mod DualWords
 pub mod Signed

@@ -19,7 +19,8 @@ use Rattle.array.proofs.Filled.{read-padded}
 use Rattle.book.specs.Layout.{width, generatorAt, limitsAt, dualAt, dualCount, byte, bodyPlace, wordLength, fieldOf, degreeOf, bookOf}
 use Rattle.book.specs.Conditions.{bodyOk, symbolsOk, generatorOk, limitsOk, alike}
 use Rattle.book.proofs.Accepting.{sizes, body-symbol, body-zero}
-use Rattle.codebook.specs.Params.{Readable, Sized, Read, generatorTest, limitsTest}
+use Rattle.records.specs.Records.{Readable}
+use Rattle.codebook.specs.Params.{Sized, Read, generatorTest, limitsTest}
 
 -- ---- readable bytes
 

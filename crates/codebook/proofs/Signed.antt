@@ -19,7 +19,8 @@ use Rattle.signature.specs.Signature.{signatureOf, allDiffer}
 use Rattle.book.specs.Layout.{width, dualAt, dualCount, byte, fieldOf, bookOf}
 use Rattle.book.specs.Conditions.{alike, distinctOk}
 use Rattle.book.proofs.Accepting.{body-zero}
-use Rattle.codebook.specs.Params.{Readable, Sized}
+use Rattle.records.specs.Records.{Readable}
+use Rattle.codebook.specs.Params.{Sized}
 use Rattle.codebook.proofs.Reading.{dual-body, alike-test}
 
 -- a test fails where one that follows from it does

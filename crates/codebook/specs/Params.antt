@@ -1,12 +1,12 @@
 -- What the code reads off a book's bytes once, and what `check` answers.
 -- Assumes nothing.
 use mathlib.Core.Path.{_≡_}
-use mathlib.Core.Bool.{Bool, cond, _&&_}
+use mathlib.Core.Bool.{Bool, _&&_}
 use mathlib.Core.List.{List, [], _∷_}
-use Prim.Native.Nat.{ℕ, suc, _+_, _^_, _≤_}
-use lib.Dec.{T, eqb, leb, ltb}
+use Prim.Native.Nat.{ℕ, suc, _+_, _≤_}
+use lib.Dec.{eqb, leb}
 use lib.ListN.{length}
-use Rattle.range.specs.Table.{table, padded}
+use Rattle.range.specs.Table.{padded}
 use Rattle.field.specs.Answer.{Answer, answer, done, refused}
 use Rattle.field.specs.Symbols.{gf}
 use Rattle.word.specs.Word.{at}
@@ -14,8 +14,9 @@ use Rattle.word.specs.Division.{divides}
 use Rattle.word.specs.CyclicCode.{unity}
 use Rattle.array.specs.Stored.{place}
 use Rattle.tables.specs.Multiples.{wordOf, Multiples}
-use Rattle.book.specs.Layout.{width, dualAt, dualCount, symbolDigits, wordLength, degreeOf, bookOf}
-use Rattle.book.specs.Conditions.{sizesOk, symbolsOk, refusal}
+use Rattle.book.specs.Layout.{width, dualCount, symbolDigits, wordLength, degreeOf, bookOf}
+use Rattle.book.specs.Conditions.{refusal}
+use Rattle.records.specs.Records.{Whole, Readable}
 use Rattle.codebook.specs.declared.Checked.{Checked}
 use Rattle.codebook.specs.declared.Checked.the-variants.{Accepted, Refused}
 use Rattle.codebook.specs.declared.Params.{Params}
@@ -28,23 +29,6 @@ said (Refused number) = refused number
 -- "Check a codebook: gives L"
 abbrev pub checkAnswer : List ℕ → Answer
 checkAnswer bytes = answer (refusal width bytes) (dualCount width (length bytes) ∷ [])
-
--- bytes of a right length: condition 1 does not hold
-pub record Whole (bytes : List ℕ) : Type 0 where
-  pub count-low : 1 ≤ dualCount width (length bytes)
-  pub count-high : dualCount width (length bytes) ≤ 32
-  pub size : length bytes ≡ dualAt width (dualCount width (length bytes))
-
--- bytes to which none of the conditions 1 to 4 applies
-pub record Readable (bytes : List ℕ) : Type 0 where
-  pub whole : Whole bytes
-  pub sizes : T (sizesOk bytes)
-  pub symbols : T (symbolsOk width bytes)
-
--- the number below which each place of a body must be: q, and from place n on 1
-pub record Bounds (bytes bounds : List ℕ) : Type 0 where
-  pub digits : 1 ≤ symbolDigits bytes
-  pub bound : bounds ≡ table 63 (λ j. cond (ltb j (wordLength bytes)) (2 ^ symbolDigits bytes) 1)
 
 -- n is the length of the words in bytes of a right length
 pub record Sized (bytes : List ℕ) (n : ℕ) : Type 0 where

@@ -6,7 +6,6 @@ ghost use Rattle.book.specs.Layout.{width};
 ghost use Rattle.book.specs.Conditions.{refusal};
 ghost use Rattle.codebook.specs.Params.{said, checkAnswer, Tabulated, Describes};
 
-pub mod bytes;
 pub mod words;
 
 // Accepted, with the count of dual words, or refused, with document 01's number.
@@ -29,16 +28,16 @@ pub struct Params {
 pub fn refusal(book: &[u8]) -> u8
     ensures { λ r. ⌜ r ≡ refusal width (now (book .entry)) ⌝ }
 {
-    if !bytes::length_ok(book) {
+    if !records::length_ok(book) {
         return 1;
     }
-    if !bytes::kinds_ok(book) {
+    if !records::kinds_ok(book) {
         return 2;
     }
-    if !bytes::sizes_ok(book) {
+    if !records::sizes_ok(book) {
         return 3;
     }
-    if !bytes::symbols_ok(book) {
+    if !records::symbols_ok(book) {
         return 4;
     }
     words::refusal(book)
@@ -52,7 +51,7 @@ pub fn check(book: &[u8]) -> Checked
     if number != 0 {
         return Checked::Refused(number);
     }
-    Checked::Accepted(bytes::dual_count(book) as u8)
+    Checked::Accepted(records::dual_count(book) as u8)
 }
 
 // What is to be known of an accepted book.
@@ -61,7 +60,7 @@ pub fn describe(book: &[u8]) -> Params
     ensures { λ r. ⌜ Describes (now (book .entry)) r ⌝ }
 {
     let p = book[2];
-    let n = bytes::word_length(book[1]);
+    let n = records::word_length(book[1]);
     let g = array::load(book, 4, n);
     Params {
         p,
@@ -69,7 +68,7 @@ pub fn describe(book: &[u8]) -> Params
         degree: words::degree(n, g),
         rounds: book[68],
         places: wide(book[69]),
-        duals: bytes::dual_count(book),
+        duals: records::dual_count(book),
     }
 }
 

@@ -9,7 +9,8 @@ ghost use Rattle.array.specs.Stored.{place, Sizes, Stored};
 ghost use Rattle.tables.specs.Multiples.{wordOf, Multiples};
 ghost use Rattle.book.specs.Layout.{width, dualCount, symbolDigits, fieldOf, degreeOf, bookOf};
 ghost use Rattle.book.specs.Conditions.{dualsOk, alike, distinctOk, bookRefusal};
-ghost use Rattle.codebook.specs.Params.{Readable, Sized, Read, Tabulated, generatorTest, limitsTest};
+ghost use Rattle.records.specs.Records.{Readable};
+ghost use Rattle.codebook.specs.Params.{Sized, Read, Tabulated, generatorTest, limitsTest};
 
 // The first number from 5 to 8 that applies, or 0. The room for the generator's table is no larger than p asks: to clear it costs time.
 pub fn refusal(book: &[u8]) -> u8
@@ -30,7 +31,7 @@ fn refusal_by(book: &[u8], t: &mut [u8]) -> u8
     ensures { λ r. ⌜ r ≡ bookRefusal (fieldOf (now (book .entry))) (bookOf width (now (book .entry))) ⌝ }
 {
     let p = book[2];
-    let n = crate::bytes::word_length(book[1]);
+    let n = records::word_length(book[1]);
     let g = array::load(book, 4, n);
     tabulate(book, p, n, t);
     if !generator_ok(p, n, g, t) {
@@ -124,7 +125,7 @@ fn duals_ok(p: u8, n: usize, book: &[u8], t: &[u8]) -> bool
     requires { ⌜ Read (now book) p n (padded 63 n (λ j. place (now book) (4 + j))) × Tabulated (now book) p n (now t) ⌝ }
     ensures { λ r. ⌜ r ≡ dualsOk (fieldOf (now (book .entry))) (bookOf width (now (book .entry))) ⌝ }
 {
-    let count = crate::bytes::dual_count(book);
+    let count = records::dual_count(book);
     if !duals::weights_ok(book, n, count) {
         return false;
     }
@@ -136,7 +137,7 @@ fn distinct_ok(n: usize, book: &[u8]) -> bool
     requires { ⌜ Readable (now book) × Sized (now book) n ⌝ }
     ensures { λ r. ⌜ r ≡ distinctOk (fieldOf (now (book .entry))) (bookOf width (now (book .entry))) ⌝ }
 {
-    let count = crate::bytes::dual_count(book);
+    let count = records::dual_count(book);
     let f = signature::factors();
     let s = signature::signatures(&f, book, 70, count);
     if signature::all_differ(count, &s) {
@@ -150,7 +151,7 @@ fn pairs_ok(n: usize, book: &[u8]) -> bool
     requires { ⌜ Sized (now book) n ⌝ }
     ensures { λ r. ⌜ r ≡ distinctOk (fieldOf (now (book .entry))) (bookOf width (now (book .entry))) ⌝ }
 {
-    let count = crate::bytes::dual_count(book);
+    let count = records::dual_count(book);
     let mut l = 0;
     while l < count {
         if seen_before(n, book, l) {

@@ -4,3 +4,4 @@ pub mod RowLeft
 pub mod Whole
 pub mod Listing
 pub mod Offsets
+pub mod Received

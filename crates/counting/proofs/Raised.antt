@@ -3,8 +3,8 @@
 use mathlib.Core.Path.{_≡_, refl, sym, ap, _∙_, subst}
 use mathlib.Core.Bool.{Bool, cond}
 use mathlib.Core.List.{List}
-use Prim.Native.Nat.{ℕ, zero, suc, _+_, _≤_, _<_, zero-le}
-use native.Mathlib.Nat.{add-zero, zero-add, add-assoc, le-of-eq, le-trans}
+use Prim.Native.Nat.{ℕ, _+_, _≤_, _<_, zero-le}
+use native.Mathlib.Nat.{add-zero, add-assoc, le-of-eq, le-trans}
 use native.Mathlib.Decide.{decLt, ℕ-discrete}
 use native.Mathlib.Omega.{arith}
 use borrow.Author.Tests.{eq-eqb, ne-eqb}
@@ -12,9 +12,7 @@ use lib.Dec.{eqb}
 use lib.ListN.{length, set, length-set, List·getD-eq-default}
 use lib.Seq.{getD-set-same, getD-set-other, ext-getD}
 use Rattle.range.specs.Fold.{total, indicator}
-use Rattle.range.specs.Table.{table}
 use Rattle.range.proofs.Table.{table-length, table-at, table-same}
-use Rattle.range.proofs.Fold.{fold-unit, sums}
 use Rattle.range.proofs.Loop.{fold-none, fold-more}
 use Rattle.array.specs.Stored.{place}
 use Rattle.counting.specs.Count.{raised}
@@ -80,22 +78,6 @@ module _ (m₀ m : List ℕ) (f : ℕ → ℕ) (e : m ≡ raised m₀ f) where
       go (yes d) = le-trans (le-of-eq (ap (λ (x : List ℕ). place x k) e ∙ raised-at m₀ f d)) (omega (arith, room k, h k))
       go (no d) = le-trans (le-of-eq (List·getD-eq-default m 0 (omega (arith, raised-long)))) zero-le
 
--- ---- a list of zeros
-
--- every number is 0
-pub zeros : (n k : ℕ) → place (table n (λ k. 0)) k ≡ 0
-unfolding table
-zeros zero k = refl
-zeros (suc n) zero = refl
-zeros (suc n) (suc k) = zeros n k
-
--- added to zeros
-pub zeros-raised : (n s : ℕ) (f : ℕ → ℕ) (m₀ m : List ℕ) → n ≡ s → m₀ ≡ table n (λ k. 0) → m ≡ raised m₀ f → m ≡ table s f
-unfolding raised
-zeros-raised n s f m₀ m size e d =
-    d ∙ ap (λ (x : List ℕ). raised x f) e ∙ ap (λ (x : ℕ). table x (λ k. place (table n (λ k. 0)) k + f k)) (table-length n (λ k. 0) ∙ size)
-    ∙ table-same s (λ k _. ap (λ (x : ℕ). x + f k) (zeros n k) ∙ zero-add (f k))
-
 -- ---- a loop that adds n terms one after another, after i of them
 
 -- the first i terms are added
@@ -111,12 +93,6 @@ module _ {n : ℕ} {term : ℕ → ℕ → ℕ} {m₀ m : List ℕ} {i : ℕ} (h
   -- the length stays
   pub adding-long : length m ≡ length m₀
   adding-long = raised-long m₀ m _ (h .added)
-
-  -- a cell that no term has met yet
-  pub adding-fresh : (k : ℕ) → k < length m₀ → ((j : ℕ) → j < i → term k j ≡ 0) → place m k ≡ place m₀ k
-  adding-fresh k l z =
-      ap (λ (x : List ℕ). place x k) (h .added) ∙ raised-at m₀ _ l ∙ ap (λ (x : ℕ). place m₀ k + x) (fold-unit _+_ 0 sums i _ z)
-      ∙ add-zero (place m₀ k)
 
   -- one more term
   pub adding-more : (m′ : List ℕ) → i < n → m′ ≡ raised m (λ k. term k i) → Adding n term m₀ m′ (i + 1)

@@ -14,7 +14,7 @@ use Rattle.range.specs.Fold.{total, indicator}
 use Rattle.range.specs.Table.{table}
 use Rattle.range.proofs.Tests.{same-eqb}
 use Rattle.range.proofs.Fold.{fold-cong, fold-unit, fold-head, fold-swap, fold-pick, sums}
-use Rattle.range.proofs.Count.{count-le, total-equal}
+use Rattle.range.proofs.Count.{total-equal}
 use Rattle.range.proofs.Table.{table-same}
 use Rattle.field.specs.Symbols.{gf}
 use Rattle.field.specs.Symbols as symbols
@@ -25,11 +25,6 @@ use Rattle.counting.specs.Count.{placeCounts, dualCounts, counted}
 use Rattle.counting.specs.Terms.{Places, dualOf, Termed}
 
 -- ---- one dual word
-
--- a place counts at most once
-pub dual-le : (p n : ℕ) (b r : ℕ → ℕ) (i j : ℕ) → dualCounts p n b r i j ≤ n
-unfolding dualCounts placeCounts
-dual-le p n b r i j = count-le n (λ h. nonzero (b h) && eqb (symbols.product p (symbols.inverse p (b h)) (product (gf p) n b r (j + h))) i)
 
 -- as many places stand in the list as the word's weight tells
 pub places-weight : {n : ℕ} {b : ℕ → ℕ} {w : ℕ} → Places n b w → weight n b ≡ w

@@ -20,6 +20,7 @@ everyShift : T (all 4 (λ p. all 9 (λ m. all 9 (λ i. all (2 ^ p) (shiftTest p 
 unfolding fold shiftTest lane
 everyShift = tt
 
+-- it is symbol m, and the others are zero
 pub lane-shifted : (p m i b : ℕ) → p ≤ 3 → m < 9 → i < 9 → b < 2 ^ p → lane p i (b * 2 ^ (p * m)) ≡ cond (eqb i m) b 0
 unfolding shiftTest
 lane-shifted p m i b hp hm hi hb =
@@ -38,6 +39,7 @@ everyDouble : T (all 4 (λ p. all 256 (λ x. all 9 (doubleTest p x))))
 unfolding fold doubleTest lane doubleAll lowDigits otherDigits timesX polynomial
 everyDouble = tt
 
+-- each symbol is x times what it was
 pub lane-double : (p x i : ℕ) → 2 ≤ p → p ≤ 3 → x < 256 → lane p (8 / p) x ≡ 0 → i < 9 → lane p i (doubleAll p x) ≡ timesX p (lane p i x)
 unfolding doubleTest
 lane-double p x i low hp hx z hi =
@@ -56,6 +58,7 @@ everyZero : T (all 4 (λ p. all 256 (zeroTest p)))
 unfolding fold zeroTest lane
 everyZero = tt
 
+-- nine symbols cover a byte at every p
 pub byte-zero : (p x : ℕ) → 1 ≤ p → p ≤ 3 → x < 256 → ((i : ℕ) → i < 9 → lane p i x ≡ 0) → x ≡ 0
 unfolding zeroTest
 byte-zero p x low hp hx z =

@@ -37,6 +37,7 @@ module _ {bytes t : List ℕ} {p n duals l start : ℕ} (h : Tested bytes p n du
   unfolding generatorWord
   generates u k = let m : u % n ≡ u = mod-eq-of-lt k in tab .word u k ∙ ap (place bytes) (omega arith)
 
+  -- the sum of its rows is its product with the generator
   pub dual-product : {word : List ℕ} → word ≡ table 64 (turnedSum n (λ u. place bytes (start + u)) t)
       → (j : ℕ) → j < n → place word j ≡ dualProduct p n bytes l j
   dual-product s j k =

@@ -43,6 +43,7 @@ pub record Joined (n : ℕ) (f : ℕ → ℕ → ℕ) (l : ℕ) (left : List ℕ
   pub long : length left ≡ 64
   pub zeros : (j : ℕ) → j < n → eqb (place left j) 0 ≡ all l (λ l. eqb (f l j) 0)
 
+-- before the first word
 pub joined-none : (n : ℕ) (f : ℕ → ℕ → ℕ) → Joined n f 0 (replicate 64 0)
 joined-none n f =
     record { long = length-replicate {A = ℕ} 64 0; zeros = λ j d. ap (λ (x : ℕ). eqb x 0) (zero-at 64 j) ∙ sym (fold-none _&&_ true _) }
@@ -70,6 +71,7 @@ module _ {n : ℕ} {f : ℕ → ℕ → ℕ} {l : ℕ} {left : List ℕ} (fits :
           zeros = λ j d. joined-at j d ∙ fold-step _&&_ true l (λ l. eqb (f l j) 0) refl (ap (λ (x : ℕ). eqb x 0) (same j d));
         }
 
+  -- where all places are zero, so are all words
   pub joined-end : {m : ℕ} → l ≡ m → all n (λ j. eqb (place left j) 0) ≡ all m (λ l. all n (λ j. eqb (f l j) 0))
   joined-end e =
       fold-cong _&&_ true n (λ j d. h .zeros j d ∙ ap (λ (m : ℕ). all m (λ l. eqb (f l j) 0)) e)

@@ -16,6 +16,7 @@ use Rattle.tables.proofs.Rows.{Rows, rows-first, rows-double, rows-end}
 use Rattle.duals.specs.Lanes.{lane, lanes}
 use Rattle.duals.proofs.Lanes.{lane-xor, lanes-length, lanes-at, lanes-twofold, lanes-begun, lanes-put}
 
+-- the rows below c are the multiples of d, symbol by symbol
 pub record LaneRows (p c : ℕ) (d t : List ℕ) : Type 0 where
   pub rows : (i : ℕ) → i < 9 → Rows p c (lanes p i d) (lanes p i t)
 
@@ -28,10 +29,12 @@ module _ {p n : ℕ} {w d : List ℕ} (s : Sizes p n) (two : Twofold (8 / p * p)
   laws : FieldLaws (gf p)
   laws = gf-laws p (s .p-low) (s .p-high)
 
+  -- rows 0 and 1
   pub lanes-first : {t₀ t : List ℕ} → Begun 128 d t₀ t → LaneRows p 2 d t
   lanes-first h = record { rows = λ i b. rows-first s (lanes-twofold p i two) (lanes-begun p i h) }
 
   module _ {c : ℕ} {t : List ℕ} (pos : 1 ≤ c) (h : LaneRows p (2 * c) d t) where
+    -- row c has no digits but those of 8 / p symbols either
     pub lanes-stored : (j : ℕ) → j < 128 → lane p (8 / p) (entry t c j) ≡ 0
     lanes-stored j l =
         sym (lanes-at p (8 / p) t (128 * c + j)) ∙ h .rows (8 / p) (omega (arith, div-le-self 8 p)) .rows c j (omega arith) l
@@ -47,6 +50,7 @@ module _ {p n : ℕ} {w d : List ℕ} (s : Sizes p n) (two : Twofold (8 / p * p)
               (lanes-put p i (λ j k. lane-xor p i _ _ ∙ ap₂ bitXor (sym (lanes-at p i t₁ _)) (sym (lanes-at p i d j))) put₂);
         }
 
+  -- all rows
   pub lanes-end : {c : ℕ} {t : List ℕ} (t₀ : List ℕ) → LaneRows p c d t → 2 ^ p ≤ c → 128 * 2 ^ p ≤ length t₀ → length t ≡ length t₀
       → (i : ℕ) → i < 9 → Tabled p n (lanes p i w) (lanes p i t₀) (lanes p i t)
   lanes-end {t = t} t₀ h l size long i b =

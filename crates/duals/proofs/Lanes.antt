@@ -1,4 +1,4 @@
--- The symbols of a byte: through sums, through shifts, and of lists of bytes.
+-- The symbols of a byte: of sums, and of lists of bytes.
 -- Assumes nothing.
 use mathlib.Core.Path.{_≡_, sym, ap, _∙_, subst}
 use mathlib.Core.Bool.{Bool, true, false, cond}
@@ -20,24 +20,29 @@ use Rattle.tables.specs.Multiples.{Twofold, Begun, RowPut}
 use Rattle.duals.specs.Lanes.{lane, lanes, lowDigits, otherDigits, doubleAll}
 
 module _ (p i : ℕ) where
+  -- of zero
   pub lane-zero : lane p i 0 ≡ 0
   unfolding lane
   lane-zero = ap (λ (x : ℕ). x % 2 ^ p) (zero-div (2 ^ (p * i))) ∙ zero-mod (2 ^ p)
 
+  -- of a sum
   pub lane-xor : (x y : ℕ) → lane p i (bitXor x y) ≡ bitXor (lane p i x) (lane p i y)
   unfolding lane
   lane-xor x y = ap (λ (z : ℕ). z % 2 ^ p) (xor-shr x y (p * i)) ∙ xor-mod (x / 2 ^ (p * i)) (y / 2 ^ (p * i)) p
 
+  -- it is a symbol
   pub lane-lt : (x : ℕ) → lane p i x < 2 ^ p
   unfolding lane
   lane-lt x = mod-lt (x / 2 ^ (p * i)) (pow-pos p)
 
   -- ---- lists
 
+  -- a list of symbols is as long as that of the bytes
   pub lanes-length : (t : List ℕ) → length (lanes p i t) ≡ length t
   unfolding lanes
   lanes-length t = table-length (length t) _
 
+  -- and is read place by place
   pub lanes-at : (t : List ℕ) (k : ℕ) → place (lanes p i t) k ≡ lane p i (place t k)
   unfolding lanes
   lanes-at t k = go (decLt k (length t))
@@ -48,10 +53,12 @@ module _ (p i : ℕ) where
           List·getD-eq-default (lanes p i t) 0 (omega (arith, table-length (length t) (λ k. lane p i (place t k))))
           ∙ sym (ap (lane p i) (List·getD-eq-default t 0 (omega arith)) ∙ lane-zero)
 
+  -- as a word of n symbols
   pub lanes-word : (n : ℕ) (w : List ℕ) (j : ℕ) → at n (lanes p i w) j ≡ lane p i (at n w j)
   unfolding at
   lanes-word n w j = lanes-at w (j % n)
 
+  -- of a word twice over
   pub lanes-twofold : {s n : ℕ} {w d : List ℕ} → Twofold s n w d → Twofold p n (lanes p i w) (lanes p i d)
   lanes-twofold {n = n} {w = w} {d = d} h =
       record {
@@ -59,6 +66,7 @@ module _ (p i : ℕ) where
         places = λ j l. lanes-at d j ∙ ap (lane p i) (h .places j l) ∙ sym (lanes-word n w j);
       }
 
+  -- of rows 0 and 1
   pub lanes-begun : {n : ℕ} {d t₀ t : List ℕ} → Begun n d t₀ t → Begun n (lanes p i d) (lanes p i t₀) (lanes p i t)
   lanes-begun {d = d} {t₀ = t₀} {t = t} h =
       record {
@@ -67,6 +75,7 @@ module _ (p i : ℕ) where
         word = λ j l. lanes-at t (128 * 1 + j) ∙ ap (lane p i) (h .word j l) ∙ sym (lanes-at d j);
       }
 
+  -- of a row
   pub lanes-put : {c : ℕ} {f g : ℕ → ℕ} {t₀ t : List ℕ} → ((j : ℕ) → j < 128 → lane p i (f j) ≡ g j) → RowPut c f t₀ t
       → RowPut c g (lanes p i t₀) (lanes p i t)
   lanes-put {c = c} {t₀ = t₀} {t = t} e h =
@@ -79,6 +88,7 @@ module _ (p i : ℕ) where
 
 -- ---- x times all symbols of a byte, as the code has it
 
+-- the digits but the highest fit a byte one place up
 pub rest-fits : (p : ℕ) {others : ℕ} → others ≡ otherDigits p → (x : ℕ) → Fits w8 (bitAnd x others + bitAnd x others)
 unfolding otherDigits
 rest-fits p {others} e x = omega (arith, and-le-r x others, go (eqb p 2))
@@ -87,6 +97,7 @@ rest-fits p {others} e x = omega (arith, and-le-r x others, go (eqb p 2))
     go true = omega arith
     go false = omega arith
 
+-- the highest digits fit a byte three times over
 pub top-fits : (p : ℕ) {ones : ℕ} → ones ≡ lowDigits p → (x m : ℕ) → m ≤ 3 → Fits w8 (bitAnd x ones * m)
 unfolding lowDigits
 top-fits p {ones} e x m l = let b = mul-le-mul-left (bitAnd x ones) l in omega (arith, b, and-le-r x ones, go (eqb p 2))
@@ -95,6 +106,7 @@ top-fits p {ones} e x m l = let b = mul-le-mul-left (bitAnd x ones) l in omega (
     go true = omega arith
     go false = omega arith
 
+-- the value that is written
 pub double-value : (p : ℕ) {x y ones others : ℕ} → x ≡ y → ones ≡ lowDigits p → others ≡ otherDigits p
     → bitXor (bitAnd x others + bitAnd x others) (bitAnd (x / 2 ^ (p - 1)) ones * 3) ≡ doubleAll p y
 unfolding doubleAll

@@ -21,6 +21,7 @@ use Rattle.duals.specs.Lanes.{lane, Written, Packed}
 use Rattle.duals.proofs.Lanes.{lane-zero, lane-xor}
 use Rattle.duals.proofs.ByteTests.{lane-shifted}
 
+-- the loop at i
 pub record Packing (p : ℕ) (bytes : List ℕ) (l k : ℕ) (out : List ℕ) (shift i : ℕ) : Type 0 where
   pub within : i ≤ k
   pub shift-is : shift ≡ p * i
@@ -28,6 +29,7 @@ pub record Packing (p : ℕ) (bytes : List ℕ) (l k : ℕ) (out : List ℕ) (sh
   pub small : (j : ℕ) → j < 64 → place out j < 2 ^ (p * i)
   pub symbols : (m j : ℕ) → m < 9 → j < 63 → lane p m (place out j) ≡ cond (ltb m i) (bodyPlace bytes (dualAt width (l + m)) j) 0
 
+-- before the first word
 pub packing-none : (p : ℕ) (bytes : List ℕ) (l k : ℕ) → Packing p bytes l k (replicate 64 0) 0 0
 packing-none p bytes l k =
     record {
@@ -46,9 +48,11 @@ words-fit p k i h l =
 
 module _ {p n : ℕ} {bytes : List ℕ} {l k : ℕ} {out : List ℕ} {shift i : ℕ} (s : Tested bytes p n (l + k)) (p-high : p ≤ 3) (few : k ≤ 8 / p)
     (h : Packing p bytes l k out shift i) where
+  -- the next word fits
   pub packing-fits : i < k → shift + p ≤ 8
   packing-fits b = omega (arith, h .shift-is, words-fit p k i few b)
 
+  -- after the last
   pub packing-end : k ≤ i → Packed p bytes l k out
   packing-end b =
       let e : i ≡ k = omega (arith, h .within) in
@@ -93,6 +97,7 @@ module _ {p n : ℕ} {bytes : List ℕ} {l k : ℕ} {out : List ℕ} {shift i : 
         rw (le-ltb m i (omega arith), eq-eqb m i q, lt-ltb m (i + 1) (omega arith)) (ap (λ (m : ℕ). bodyPlace bytes (dualAt width (l + m)) j) (sym q))
     joined m j (no a) (no q) = rw (le-ltb m i (omega arith), ne-eqb m i q, le-ltb m (i + 1) (omega arith))
 
+    -- a word more
     pub packing-more : Packing p bytes l k out′ (shift + p) (i + 1)
     packing-more =
         record {

@@ -10,6 +10,7 @@ use Rattle.array.specs.Stored.{place}
 use Rattle.book.specs.Layout.{width, dualAt, bodyPlace}
 use Rattle.duals.specs.Duals.{dualWord}
 
+-- its period is n
 pub dual-period : (n : ℕ) (bytes : List ℕ) (l : ℕ) → Periodic n (dualWord n bytes l)
 unfolding dualWord
 dual-period n bytes l j = ap (bodyPlace bytes (dualAt width l)) (add-mod-right j n)

@@ -19,16 +19,19 @@ use Rattle.array.specs.Stored.{place}
 use Rattle.tables.specs.Multiples.{wordOf, Multiples}
 use Rattle.duals.specs.Rows.{turned, turnedSum}
 
+-- the rows of the first u places are summed
 pub record Summing (n : ℕ) (b : ℕ → ℕ) (t : List ℕ) (u : ℕ) (sum : List ℕ) : Type 0 where
   pub within : u ≤ n
   pub long : length sum ≡ 64
   pub at : (j : ℕ) → j < 64 → place sum j ≡ fold bitXor 0 u (turned n b t j)
 
+-- before the first row
 pub summing-none : (n : ℕ) (b : ℕ → ℕ) (t : List ℕ) → Summing n b t 0 (replicate 64 0)
 summing-none n b t =
     record { within = zero-le; long = length-replicate {A = ℕ} 64 0; at = λ j l. zero-at 64 j ∙ sym (fold-none bitXor 0 _) }
 
 module _ {n : ℕ} {b : ℕ → ℕ} {t : List ℕ} {u : ℕ} {sum : List ℕ} (h : Summing n b t u sum) where
+  -- a row more
   pub summing-more : {x : ℕ} {sum′ : List ℕ} → u < n → x ≡ b u → sum′ ≡ table 64 (λ j. bitXor (place sum j) (place t (128 * x + (n - u) + j)))
       → Summing n b t (u + 1) sum′
   summing-more l ex e =
@@ -40,6 +43,7 @@ module _ {n : ℕ} {b : ℕ → ℕ} {t : List ℕ} {u : ℕ} {sum : List ℕ} (
             ∙ fold-step bitXor 0 u (turned n b t j) (h .at j d) (ap (λ (x : ℕ). place t (128 * x + (n - u) + j)) ex);
       }
 
+  -- after the last
   pub summing-end : n ≤ u → sum ≡ table 64 (turnedSum n b t)
   unfolding turnedSum
   summing-end l =

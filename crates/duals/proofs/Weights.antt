@@ -23,9 +23,11 @@ fold-short op e M k m l f =
     (λ m l ih h. ap (op (fold op e m f)) (h m l (le-refl _)) ∙ M .unit (fold op e m f) ∙ ih (λ i a b. h i a (le-step b))) m l
 
 module _ {bytes : List ℕ} {n duals : ℕ} (h : Lying bytes n duals) {l start : ℕ} (b : l < duals) (e : start ≡ dualAt width l + 1) where
+  -- its symbol at place 0
   pub dual-first : place bytes start ≡ dualWord n bytes l 0
   dual-first = ap (place bytes) (omega arith) ∙ dual-at bytes l e 0 (h .n-low)
 
+  -- from place n on it adds nothing
   pub dual-weight : count 63 (λ j. nonzero (place bytes (start + j))) ≡ weight n (dualWord n bytes l)
   unfolding weight
   dual-weight =

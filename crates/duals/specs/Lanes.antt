@@ -19,10 +19,11 @@ lane p i x = x / 2 ^ (p * i) % 2 ^ p
 unfoldable pub lanes : ℕ → ℕ → List ℕ → List ℕ
 lanes p i t = table (length t) (λ k. lane p i (place t k))
 
--- at p = 2 and 3: the lowest digit of each symbol of a byte, and all digits but the highest of each
+-- at p = 2 and 3: the lowest digit of each symbol of a byte
 unfoldable pub lowDigits : ℕ → ℕ
 lowDigits p = cond (eqb p 2) 85 9
 
+-- and all digits but the highest of each
 unfoldable pub otherDigits : ℕ → ℕ
 otherDigits p = cond (eqb p 2) 85 27
 

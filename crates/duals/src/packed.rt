@@ -30,6 +30,7 @@ pub fn products_vanish(p: u8, n: usize, book: &[u8], duals: usize) -> bool
     tables::vanishes(n, &left)
 }
 
+// The smaller of two numbers.
 fn smaller(a: usize, b: usize) -> usize
     ensures { λ r. ⌜ r ≡ min a b ⌝ }
 {

@@ -3,4 +3,3 @@ pub mod Turning
 pub mod Gathering
 pub mod Dual
 pub mod Tallying
-pub mod Received

@@ -11,20 +11,15 @@ use native.Mathlib.Decide.{decLt}
 use native.Mathlib.Omega.{arith}
 use lib.Dec.{eqb}
 use lib.ListN.{length}
-use lib.Pow.{pow-mono}
 use Rattle.range.specs.Fold.{indicator}
 use Rattle.range.specs.Table.{table}
 use Rattle.range.proofs.Fold.{fold-cong}
 use Rattle.range.proofs.Table.{table-at}
 use Rattle.range.proofs.Count.{fold-le}
 use Rattle.word.specs.Word.{at}
-use Rattle.array.specs.Stored.{place, Sizes}
+use Rattle.array.specs.Stored.{place}
 use Rattle.tables.specs.Multiples.{Twofold}
 use Rattle.marks.specs.Marks.{Marked, marksOf, Summable, RowAdded, turnsFrom, turnCounts, Turned, Counted}
-
--- at most 64 symbols
-pub order-le : {p n : ℕ} → Sizes p n → 2 ^ p ≤ 64
-order-le s = pow-mono (s .p-high)
 
 -- a sum of marks is at most the weight
 marks-le : {v : List ℕ} {start : ℕ} {turns : List ℕ} {from weight : ℕ} → Summable v start turns from weight

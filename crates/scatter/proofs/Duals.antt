@@ -1,6 +1,6 @@
 -- The dual words, counted one after another.
 -- Assumes nothing.
-use mathlib.Core.Path.{_≡_, sym, ap, ap₂, _∙_, subst, fun-ext}
+use mathlib.Core.Path.{_≡_, sym, ap, ap₂, _∙_, fun-ext}
 use mathlib.Core.List.{List}
 use Prim.Native.Nat.{ℕ, _+_, _-_, _*_, _/_, _%_, _^_, _≤_, _<_}
 use native.Mathlib.Nat.{mod-lt, le-trans, mul-le-mul, zero-add}
@@ -8,34 +8,23 @@ use native.Mathlib.Omega.{arith}
 use lib.Arith.{digits-lt, digits-div, digits-mod}
 use lib.Dec.{eqb}
 use Rattle.range.specs.Fold.{total, indicator}
-use Rattle.range.specs.Table.{padded}
 use Rattle.range.proofs.Fold.{fold-cong}
 use Rattle.range.proofs.Count.{count-le, fold-le}
 use Rattle.field.specs.Symbols.{gf}
 use Rattle.field.proofs.Gf.{gf-laws}
 use Rattle.word.specs.Word.{at, product}
 use Rattle.word.proofs.Sums.{sum-below}
-use Rattle.array.specs.Stored.{place, Sizes, Stored}
-use Rattle.tables.specs.Multiples.{wordOf, Tabled, Multiplied}
-use Rattle.tables.proofs.Tables.{widened-stored, widened-at, wordOf-period, multiplied-at}
+use Rattle.array.specs.Stored.{place, Sizes}
+use Rattle.tables.specs.Multiples.{wordOf, Multiplied}
+use Rattle.tables.proofs.Tables.{wordOf-period, multiplied-at}
 use Rattle.counting.specs.Count.{raised}
 use Rattle.counting.specs.Terms.{Turns, dualOf}
 use Rattle.counting.proofs.Raised.{raised-at, raised-same, raised-most, Adding, adding-long, adding-more, adding-end}
 use Rattle.counting.proofs.Whole.{all-le}
+use Rattle.counting.proofs.Received.{order-le}
 use Rattle.scatter.specs.Scatter.{symbolRow, RowStarts, Started, Offsets, rowAt, rowsWith, termsAdd, Terms}
 use Rattle.scatter.specs.Fill.{Scattering, dualRows, Scattered}
-use Rattle.scatter.proofs.Rows.{order-le, row-le, start-le}
-
--- the received word is the word of the table
-module _ {p n : ℕ} (s : Sizes p n) (r : List ℕ) {w : List ℕ} (e : w ≡ padded 64 n (place r)) where
-  -- it has symbols
-  pub word-stored : Stored p n r → Stored p 64 w
-  word-stored ok = subst (Stored p 64) (sym e) (widened-stored p 64 n r (omega (arith, s .n-high)) ok)
-
-  -- and is read off the table
-  pub word-read : {t₀ t : List ℕ} → Tabled p n w t₀ t → wordOf n t ≡ at n r
-  word-read h =
-      fun-ext (λ j. h .word j ∙ ap (λ (w : List ℕ). at n w j) e ∙ widened-at 64 n r (s .n-low) (omega (arith, s .n-high)) j)
+use Rattle.scatter.proofs.Rows.{row-le, start-le}
 
 -- the offsets of a term: its place, and its logarithm
 module _ {n : ℕ} {b : ℕ → ℕ} {logs : List ℕ} {weight : ℕ} {turns : ℕ → ℕ} (h : Turns n b logs weight turns) (small : n ≤ 63) {i : ℕ} (l : i < weight) where

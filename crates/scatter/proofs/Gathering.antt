@@ -11,8 +11,8 @@ use lib.Arith.{digits-lt}
 use lib.ListN.{length}
 use Rattle.array.specs.Stored.{place, Sizes}
 use Rattle.tables.proofs.Window.{Window}
+use Rattle.counting.proofs.Received.{order-low}
 use Rattle.scatter.specs.Scatter.{Logged, RowGathered, bothRows, Gathered}
-use Rattle.scatter.proofs.Rows.{order-low}
 
 -- a row written whole
 pub row-gathered : {n from low high j : ℕ} {counts m₀ m : List ℕ} → j ≡ n

@@ -8,17 +8,10 @@ use native.Mathlib.Nat.{mul-le-mul, ne-of-gt}
 use native.Mathlib.Omega.{arith}
 use borrow.Author.Tests.{ne-eqb}
 use lib.ListN.{set, replicate}
-use lib.Pow.{pow-mono}
 use Rattle.range.proofs.Loop.{Held, held-none, held-more}
 use Rattle.array.specs.Stored.{place, Sizes}
+use Rattle.counting.proofs.Received.{order-le}
 use Rattle.scatter.specs.Scatter.{Logged, symbolRow, RowStarts}
-
--- there are from 2 to 64 symbols
-pub order-le : {p n : ℕ} → Sizes p n → 2 ^ p ≤ 64
-order-le s = pow-mono (s .p-high)
-
-pub order-low : {p n : ℕ} → Sizes p n → 2 ≤ 2 ^ p
-order-low s = pow-mono (s .p-low)
 
 -- the row of 0
 pub row-zero : (p : ℕ) (logs : List ℕ) → symbolRow p logs 0 ≡ 2 * (2 ^ p - 1)

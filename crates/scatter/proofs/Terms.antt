@@ -13,9 +13,9 @@ use Rattle.range.proofs.Count.{count-le}
 use Rattle.array.specs.Stored.{place}
 use Rattle.counting.specs.Count.{raised}
 use Rattle.counting.proofs.Raised.{raised-same, raised-most, Adding, adding-long, adding-more, adding-end}
+use Rattle.counting.proofs.Received.{order-le}
 use Rattle.scatter.specs.Scatter.{Within, cellAdds, rowAt, rowsWith, termsAdd, Terms}
 use Rattle.scatter.proofs.Column.{one-column}
-use Rattle.scatter.proofs.Rows.{order-le}
 
 -- 1 where term i counts in the flat counter k
 unfoldable pub termAdds : ℕ → ℕ → List ℕ → List ℕ → ℕ → ℕ → ℕ → ℕ

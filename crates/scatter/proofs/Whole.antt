@@ -12,9 +12,9 @@ use Rattle.array.specs.Stored.{place, Sizes}
 use Rattle.powers.specs.Powers.{PowersOf}
 use Rattle.counting.specs.Terms.{dualOf, Filling}
 use Rattle.counting.proofs.Whole.{RowsFilled, terms-weight}
+use Rattle.counting.proofs.Received.{order-le}
 use Rattle.scatter.specs.Scatter.{Logged, bothRows, Gathered}
 use Rattle.scatter.specs.Fill.{Cleared, Scattering, dualRows, Scattered}
-use Rattle.scatter.proofs.Rows.{order-le}
 use Rattle.scatter.proofs.Duals.{product-symbol}
 use Rattle.scatter.proofs.Division.{both-rows}
 

@@ -7,12 +7,10 @@ use native.Mathlib.Nat.{mod-lt, mod-mod, mod-add-mod, mod-add-div', mod-eq-of-lt
 use native.Mathlib.Omega.{arith}
 use lib.Arith.{digits-mod}
 use lib.ListN.{getD, length}
-use Rattle.range.specs.Fold.{indicator}
 use Rattle.range.specs.Table.{table}
-use Rattle.range.proofs.Fold.{fold-cong}
 use Rattle.range.proofs.Table.{table-at, table-length}
 use Rattle.field.specs.Field.{FieldOps}
-use Rattle.word.specs.Word.{at, nonzero, weight}
+use Rattle.word.specs.Word.{at}
 use Rattle.word.proofs.Sums.{Symbols}
 
 -- w is a word of n symbols, read as a function of its places
@@ -84,8 +82,3 @@ table-symbols F n f pos h =
       exact = table-length n f;
       symbols = λ j. subst (λ (x : ℕ). x < F .q) (sym (table-at n f (mod-lt j pos))) (h (j % n) (mod-lt j pos));
     }
-
--- the weight goes by the places below n
-pub weight-at : (n : ℕ) (w : List ℕ) → weight n (λ j. getD w j 0) ≡ weight n (at n w)
-unfolding weight
-weight-at n w = fold-cong _+_ 0 n (λ j l. ap (λ (x : ℕ). indicator (nonzero x)) (sym (at-lt n w l)))

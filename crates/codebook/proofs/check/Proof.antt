@@ -2,7 +2,7 @@
 -- Assumes nothing.
 use mathlib.Core.Path.{sym, _∙_}
 use Rattle.field.proofs.Refusals.{answers-refused, answers-done}
-use Rattle.codebook.proofs.Tested.{readable}
+use Rattle.records.proofs.Tested.{readable}
 use borrow.Author.Needs.{needs}
 use Rattle.codebook.proofs.check.Statement.{statement}
 use Rattle.codebook.proofs.check.Tie as tie

@@ -3,7 +3,7 @@
 use mathlib.Core.Path.{refl, _∙_}
 use native.Mathlib.Omega.{arith}
 use Rattle.book.specs.Layout.{bookOf}
-use Rattle.codebook.proofs.Tested.{readable, exponent-high}
+use Rattle.records.proofs.Tested.{readable, exponent-high}
 use Rattle.codebook.proofs.Reading.{sized, degree-is}
 use borrow.Author.Needs.{needs}
 use Rattle.codebook.proofs.describe.Statement.{statement}

@@ -1,7 +1,7 @@
 -- `codebook::refusal` meets its contract: each return rewrites with the tests that led there.
 -- Assumes nothing.
 use Rattle.book.specs.Conditions.{refusal}
-use Rattle.codebook.proofs.Tested.{failed, passed, held, whole}
+use Rattle.records.proofs.Tested.{failed, passed, held, whole}
 use borrow.Author.Needs.{needs}
 use Rattle.codebook.proofs.refusal.Statement.{statement}
 use Rattle.codebook.proofs.refusal.Tie as tie

@@ -4,8 +4,9 @@ use mathlib.Core.Path.{_∙_}
 use Prim.Native.Nat.{_*_, _-_}
 use native.Mathlib.Omega.{arith}
 use lib.Pow.{pow-pos}
+use Rattle.counting.proofs.Received.{order-le}
 use Rattle.marks.specs.Marks.{marksOf}
-use Rattle.marks.proofs.Turning.{order-le, Raising, raising-none, raising-more, turned-summable, turned-le, raising-end}
+use Rattle.marks.proofs.Turning.{Raising, raising-none, raising-more, turned-summable, turned-le, raising-end}
 use borrow.Author.Needs.{needs}
 use Rattle.marks.proofs.count_dual.Statement.{statement}
 use Rattle.marks.proofs.count_dual.Tie as tie

@@ -4,8 +4,8 @@ use mathlib.Core.Path.{refl, ap, _∙_}
 use native.Mathlib.Omega.{arith}
 use Rattle.counting.specs.Count.{counted}
 use Rattle.counting.proofs.Whole.{column-room, filled, all-le}
+use Rattle.counting.proofs.Received.{word-stored, word-read}
 use Rattle.marks.proofs.Tallying.{few-le, tallied-gatherable, gathered-filled}
-use Rattle.marks.proofs.Received.{word-stored, word-read}
 use borrow.Author.Needs.{needs}
 use Rattle.marks.proofs.fill.Statement.{statement}
 use Rattle.marks.proofs.fill.Tie as tie

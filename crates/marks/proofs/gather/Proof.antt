@@ -3,7 +3,7 @@
 use mathlib.Core.Path.{_∙_}
 use Prim.Native.Nat.{_-_, _^_, _<_}
 use native.Mathlib.Omega.{arith}
-use Rattle.marks.proofs.Turning.{order-le}
+use Rattle.counting.proofs.Received.{order-le}
 use Rattle.marks.proofs.Gathering.{Gathering, gathering-none, row-within, counters-within, gathering-more, gathering-end}
 use borrow.Author.Needs.{needs}
 use Rattle.marks.proofs.gather.Statement.{statement}

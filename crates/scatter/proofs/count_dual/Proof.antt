@@ -4,7 +4,7 @@ use mathlib.Core.Path.{_≡_, refl}
 use Prim.Native.Nat.{_+_, _-_, _^_}
 use native.Mathlib.Omega.{arith}
 use Rattle.counting.proofs.Raised.{Adding, adding-none, adding-long}
-use Rattle.scatter.proofs.Rows.{order-low}
+use Rattle.counting.proofs.Received.{order-low}
 use Rattle.scatter.proofs.Terms.{termAdds, log-lt, base-room, base-small, term-within, term-more, terms-end}
 use borrow.Author.Needs.{needs}
 use Rattle.scatter.proofs.count_dual.Statement.{statement}

@@ -4,8 +4,8 @@ use Prim.Native.Nat.{_-_}
 use native.Mathlib.Omega.{arith}
 use Rattle.counting.proofs.Raised.{Adding, adding-none, adding-long}
 use Rattle.counting.proofs.Summing.{summed}
-use Rattle.scatter.proofs.Rows.{order-le}
-use Rattle.scatter.proofs.Duals.{word-stored, word-read, dualAdds, dual-started, dual-terms, dual-more, duals-end}
+use Rattle.counting.proofs.Received.{order-le, word-stored, word-read}
+use Rattle.scatter.proofs.Duals.{dualAdds, dual-started, dual-terms, dual-more, duals-end}
 use borrow.Author.Needs.{needs}
 use Rattle.scatter.proofs.count_duals.Statement.{statement}
 use Rattle.scatter.proofs.count_duals.Tie as tie

@@ -3,7 +3,7 @@
 use mathlib.Core.Path.{_≡_}
 use Prim.Native.Nat.{_^_}
 use native.Mathlib.Omega.{arith}
-use Rattle.scatter.proofs.Rows.{order-le, order-low}
+use Rattle.counting.proofs.Received.{order-low, order-le}
 use Rattle.scatter.proofs.Whole.{rows-fit, cleared}
 use borrow.Author.Needs.{needs}
 use Rattle.scatter.proofs.fill.Statement.{statement}

@@ -3,7 +3,7 @@
 use mathlib.Core.Path.{_≡_}
 use Prim.Native.Nat.{_-_, _^_}
 use native.Mathlib.Omega.{arith}
-use Rattle.scatter.proofs.Rows.{order-le, order-low}
+use Rattle.counting.proofs.Received.{order-low, order-le}
 use Rattle.scatter.proofs.Gathering.{Gathering, log-small, row-in, low-in, high-in, gathering-none, gathering-more, gathering-end}
 use borrow.Author.Needs.{needs}
 use Rattle.scatter.proofs.gather.Statement.{statement}

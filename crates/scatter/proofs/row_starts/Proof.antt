@@ -4,7 +4,8 @@ use mathlib.Core.Path.{_≡_, refl}
 use Prim.Native.Nat.{_+_, _-_, _^_, _≤_}
 use native.Mathlib.Omega.{arith}
 use Rattle.range.proofs.Loop.{Held, held-more}
-use Rattle.scatter.proofs.Rows.{order-le, order-low, startOf, start-le, first-le, starts-first, log-start, starts-end}
+use Rattle.counting.proofs.Received.{order-low, order-le}
+use Rattle.scatter.proofs.Rows.{startOf, start-le, first-le, starts-first, log-start, starts-end}
 use borrow.Author.Needs.{needs}
 use Rattle.scatter.proofs.row_starts.Statement.{statement}
 use Rattle.scatter.proofs.row_starts.Tie as tie

@@ -12,7 +12,7 @@ use Rattle.book.specs.Layout.{width, symbolDigits, fieldOf, bookOf}
 use Rattle.book.specs.Conditions.{generatorOk, limitsOk, bookRefusal}
 use Rattle.codebook.specs.Params.{Read}
 use Rattle.codebook.proofs.Reading.{sized, read-sizes, generator-stored, generator-test, limits-test}
-use Rattle.codebook.proofs.Tested.{failed, passed, exponent-high}
+use Rattle.records.proofs.Tested.{failed, passed, exponent-high}
 use borrow.Author.Needs.{needs}
 use Rattle.codebook.proofs.words.refusal_by.Statement.{statement}
 use Rattle.codebook.proofs.words.refusal_by.Tie as tie
