@@ -1,5 +1,5 @@
 # `make run` and `make test` are all a newcomer needs; both work from a fresh clone.
-.PHONY: run test cases fuzz bench build install uninstall clean
+.PHONY: run test cases check-time fuzz bench build install uninstall clean
 
 VERSION = 0.1.0
 RT = rt
@@ -23,6 +23,10 @@ test:
 # The fourteen worked cases, proved and shown.
 cases:
 	@tests/show_cases
+
+# Every crate proved from nothing, without the edits that must be refused: seconds a crate, and in all.
+check-time:
+	@tests/check_time
 
 # Longer than in the gate, as in make fuzz FUZZ_SECONDS=3600.
 FUZZ_SECONDS = 600

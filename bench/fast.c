@@ -1,5 +1,5 @@
 /*
- * The best portable C for document 01's answers. Vectors are the compilers' own (vector_size), so that one source serves every target of little end; no intrinsic.
+ * The best portable C for the scope's answers. Vectors are the compilers' own (vector_size), so that one source serves every target of little end; no intrinsic.
  *
  * The book is checked in each call, as the C boundary does. What makes it fast:
  *   - a word's multiples by every symbol stand in rows, each row twice in a run, so that a product with a dual word is a sum of rows at offsets;

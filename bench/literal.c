@@ -1,5 +1,5 @@
 /*
- * Document 01 transcribed: every condition of the codebook, and S0's algorithm 1 with L * n * weight^2 symbol products a round. Nothing is prepared,
+ * The scope transcribed: every condition of the codebook, and S0's algorithm 1 with L * n * weight^2 symbol products a round. Nothing is prepared,
  * so this is what the definition costs.
  */
 #include "literal.h"

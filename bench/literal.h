@@ -1,4 +1,4 @@
-/* Document 01 and S0's algorithm 1, transcribed word by word. */
+/* The scope and S0's algorithm 1, transcribed word by word. */
 #ifndef LITERAL_H
 #define LITERAL_H
 

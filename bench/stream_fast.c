@@ -1,5 +1,5 @@
 /*
- * The program decode_stream over fast.c, to compare with: the book is checked once, input and output go in blocks. Document 01, "Program", tells what
+ * The program decode_stream over fast.c, to compare with: the book is checked once, input and output go in blocks. The scope, "Program", tells what
  * is read and printed.
  */
 #include "fast.h"

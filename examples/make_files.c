@@ -5,7 +5,7 @@
  *
  * writes BOOKS/NAME.book and STREAM/NAME.in. `examples/run` makes them anew and compares them with the stored ones.
  *
- * a is book A of document 01, faulty_1 to faulty_8 its examples of the refusals 1 to 8. line15 and line63 are geometry codes. The places of a word
+ * a is book A of the scope, faulty_1 to faulty_8 its examples of the refusals 1 to 8. line15 and line63 are geometry codes. The places of a word
  * are the powers z^j of symbol 2 of GF(2^s), taken as the points other than 0 of the plane (s 4) or the space (s 6) over GF(4). A dual word marks the
  * points of a line that misses 0. Two points lie on one line only, so the check values at a place share no other place, and an error elsewhere
  * spoils at most one of them. There is a dual word for each class of lines under turning, and the code is the largest that all of them allow.
@@ -52,7 +52,7 @@ static void make_a(struct bytes *book)
     put(book, 4), put_body(book, "1110100");
 }
 
-/* Book A with the fault that document 01 gives as the example of a refusal. */
+/* Book A with the fault that the scope gives as the example of a refusal. */
 static void make_faulty(struct bytes *book, unsigned number)
 {
     make_a(book);
@@ -101,7 +101,7 @@ static uint64_t greatest_divisor(uint64_t a, uint64_t b)
     return a;
 }
 
-/* Product of GF(2^s), by the polynomial that document 01 gives s; s is 4 or 6 here. */
+/* Product of GF(2^s), by the polynomial that the scope gives s; s is 4 or 6 here. */
 static unsigned product(unsigned s, unsigned a, unsigned b)
 {
     unsigned r = 0;

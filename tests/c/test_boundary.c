@@ -1,5 +1,5 @@
 /*
- * The library called from C by its header alone: document 01's codebooks A, B and C, its cases, and the refusals of its table. It is C++ as well,
+ * The library called from C by its header alone: the scope's codebooks A, B and C, its cases, and the refusals of its table. It is C++ as well,
  * since the header is.
  *
  * Every input ends where its block of memory ends, so that a memory checker sees a read beyond it. Every output lies between guards.
@@ -100,7 +100,7 @@ static void take_back(uint8_t *lent)
     free(lent - 1);
 }
 
-/* Symbols written as document 01 writes them, a digit each. */
+/* Symbols written as the scope writes them, a digit each. */
 static size_t symbols(uint8_t *word, const char *digits)
 {
     size_t len = 0;

@@ -1,11 +1,11 @@
 #!/usr/bin/env python3
-"""Writes runs/NAME/stdin of every stored run. What the program must print, runs/NAME/stdout, is not made: it was found by hand from document 01."""
+"""Writes runs/NAME/stdin of every stored run. What the program must print, runs/NAME/stdout, is not made: it was found by hand from the scope."""
 
 import pathlib
 
 
 def word(digits, n=None):
-    """Symbols as document 01 writes them, a digit each."""
+    """Symbols as the scope writes them, a digit each."""
     symbols = bytes(int(digit) for digit in digits)
     return symbols.ljust(n or len(symbols), b"\0")
 
@@ -60,7 +60,7 @@ def wrong(symbol, place, error):
 RECORD_A = a()[70:134]
 
 RUNS = {
-    # Document 01's example, and its cases that are decodes.
+    # The scope's example, and its cases that are decodes.
     "example": stdin(a(), *EXAMPLE),
     "case_8_d_6": stdin(a(d=6), "1000000"),
     "case_9_spent": stdin(a(d=7), "1000000", "1101000"),
@@ -71,7 +71,7 @@ RUNS = {
     "every_kind": stdin(book(3, 3, word("1111111"), 3, 4, [word("11")]), "5555555", "7667777", "0100230", "0001000"),
     "rounds_of_two_digits": stdin(a(i=63, d=7), "1000000"),
     "no_words": stdin(a()),
-    # The refusals of a codebook, by document 01's examples. What follows a refused one is not answered.
+    # The refusals of a codebook, by the scope's examples. What follows a refused one is not answered.
     "refusal_1": stdin(a()[:133], *EXAMPLE),
     "refusal_2": stdin(with_byte(a(), 0, 2), *EXAMPLE),
     "refusal_3": stdin(a(p=2), *EXAMPLE),

@@ -1,3 +1,8 @@
-pub mod Sound
-pub mod Accepting
-pub mod Numbers
+pub mod Reading
+pub mod DualWords
+pub mod Signed
+pub mod Degree
+pub mod Described
+pub mod Gathering
+pub mod Rooms
+pub mod Answering

@@ -1,4 +1,2 @@
-pub mod Book
-pub mod Layout
-pub mod Conditions
-pub mod Inputs
+pub mod Params
+pub mod Opened

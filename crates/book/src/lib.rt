@@ -1,1 +1,141 @@
-// The codebook's byte layout and the conditions under which it is accepted: definitions in specs/, laws in proofs/. This crate has no code.
+// The codebook: its byte layout and the conditions under which it is accepted. The book is read where it lies.
+ghost use mathlib.Core.Path.{_≡_};
+ghost use Prim.Native.Nat.{_*_, _^_, _≤_};
+ghost use lib.ListN.{length};
+ghost use Rattle.spec_book.specs.Layout.{symbolDigits};
+ghost use Rattle.book_records.specs.Records.{Readable};
+ghost use Rattle.spec_operations.specs.Check.{checkAnswer};
+ghost use Rattle.book.specs.Params.{said};
+ghost use Rattle.book.specs.Opened.{fewSymbols, tableRoom, MatrixSize, Opens};
+use sizes::FEW_TABLE;
+use sizes::GENERATOR_AT;
+use sizes::LIMITS_AT;
+use sizes::TABLE;
+
+mod generator;
+mod pairs;
+mod words;
+
+// Accepted, with the count of dual words, or refused, with the number of SCOPE 7.
+pub enum Checked {
+    Accepted(u8),
+    Refused(u8),
+}
+
+// What coding and decoding read off an accepted book.
+pub struct Params {
+    pub p: u8,
+    pub n: usize,
+    pub degree: usize,
+    pub rounds: u8,
+    pub places: usize,
+    pub duals: usize,
+}
+
+// An accepted book, by what was read off it, or the number of its refusal.
+pub enum Opened {
+    Open(Params),
+    Refused(u8),
+}
+
+// Whether a book's p tells of few symbols, whatever the book. One that ends before p needs no more room than those.
+pub fn few_symbols(book: &[u8]) -> bool
+    ensures { λ r. ⌜ r ≡ fewSymbols (now (book .entry)) ⌝ }
+{
+    if book.len() < GENERATOR_AT {
+        return true;
+    }
+    sizes::few(book[2])
+}
+
+// Room for the table of the generator's multiples. Only its length matters: what is read of it is written first.
+pub fn table_room() -> [u8; TABLE]
+    ensures { λ r. ⌜ 8192 ≡ length r ⌝ }
+{
+    [0; TABLE]
+}
+
+// The same where symbols are few: to clear more costs time.
+pub fn few_table_room() -> [u8; FEW_TABLE]
+    ensures { λ r. ⌜ 1024 ≡ length r ⌝ }
+{
+    [0; FEW_TABLE]
+}
+
+// The size of an accepted book's matrix, known before the book is opened, so that room can be lent. Any other book asks for no more.
+pub fn matrix_size(book: &[u8]) -> usize
+    ensures { λ r. ⌜ MatrixSize (now (book .entry)) r ⌝ }
+{
+    if book.len() < GENERATOR_AT {
+        return 0;
+    }
+    let s = book[1];
+    let p = book[2];
+    if 6 < s {
+        return 0;
+    }
+    if 6 < p {
+        return 0;
+    }
+    sizes::wide(field::order(p)) * book_records::word_length(s)
+}
+
+// Opens a book: checks it, and leaves the table of its generator's multiples in t.
+pub fn open(book: &[u8], t: &mut [u8]) -> Opened
+    requires { ⌜ tableRoom (now book) ≤ length (now t) ⌝ }
+    ensures { λ r. ⌜ Opens (now (book .entry)) r (now (t .exit)) × (length (now (t .exit)) ≡ length (now (t .entry))) ⌝ }
+{
+    let number = book_records::refusal(book);
+    if number != 0 {
+        return Opened::Refused(number);
+    }
+    open_readable(book, t)
+}
+
+// The same where none of the numbers 1 to 4 applies. Everything is read once, and what is read serves the other conditions and the caller.
+fn open_readable(book: &[u8], t: &mut [u8]) -> Opened
+    requires { ⌜ Readable (now book) × (128 * 2 ^ symbolDigits (now book) ≤ length (now t)) ⌝ }
+    ensures { λ r. ⌜ Opens (now (book .entry)) r (now (t .exit)) × (length (now (t .exit)) ≡ length (now (t .entry))) ⌝ }
+{
+    let p = book[2];
+    let n = book_records::word_length(book[1]);
+    let g = word_array::load(book, GENERATOR_AT + 1, n);
+    word_table::tabulate(p, n, word_table::widened(n, g), t);
+    let c = Params {
+        p,
+        n,
+        degree: generator::degree(n, g),
+        rounds: book[LIMITS_AT + 1],
+        places: sizes::wide(book[LIMITS_AT + 2]),
+        duals: book_records::dual_count(book),
+    };
+    let number = words::refusal(book, c, g, t);
+    if number != 0 {
+        return Opened::Refused(number);
+    }
+    Opened::Open(c)
+}
+
+// Check a codebook.
+pub fn check(book: &[u8]) -> Checked
+    ensures { λ r. ⌜ said r ≡ checkAnswer (now (book .entry)) ⌝ }
+{
+    if few_symbols(book) {
+        let mut t = few_table_room();
+        return check_in(book, &mut t);
+    }
+    let mut t = table_room();
+    check_in(book, &mut t)
+}
+
+// The same, with room for the table.
+fn check_in(book: &[u8], t: &mut [u8]) -> Checked
+    requires { ⌜ tableRoom (now book) ≤ length (now t) ⌝ }
+    ensures { λ r. ⌜ said r ≡ checkAnswer (now (book .entry)) ⌝ }
+{
+    let opened = open(book, t);
+    match opened {
+        Opened::Open(c) => Checked::Accepted(c.duals as u8),
+        Opened::Refused(number) => Checked::Refused(number),
+    }
+}

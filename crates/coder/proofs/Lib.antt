@@ -1,3 +1,2 @@
-pub mod Accepting
+pub mod Opening
 pub mod Working
-pub mod Returning

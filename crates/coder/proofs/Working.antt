@@ -1,130 +1,101 @@
 -- What code and read write, from what their calls ensure.
 -- Assumes nothing.
-use mathlib.Core.Path.{_≡_, refl, sym, ap, _∙_, subst, fun-ext}
-use mathlib.Core.Bool.{Bool, true, _&&_}
+use mathlib.Core.Path.{_≡_, refl, sym, ap, _∙_}
+use mathlib.Core.Bool.{Bool}
 use mathlib.Core.List.{List}
-use Prim.Native.Nat.{ℕ, _+_, _-_, _%_, _≤_, _<_}
+use Prim.Native.Nat.{ℕ, _+_, _-_, _≤_}
+use native.Mathlib.Nat.{le-of-eq}
 use native.Mathlib.Omega.{arith}
 use lib.Dec.{eqb}
 use lib.ListN.{length}
-use lib.Seq.{ext-getD}
-use Rattle.range.specs.Fold.{all}
-use Rattle.range.specs.Table.{table, padded}
-use Rattle.range.proofs.Fold.{fold-cong}
-use Rattle.range.proofs.Table.{table-length, table-at, table-same}
-use Rattle.range.proofs.Loop.{padded-reads}
-use Rattle.field.specs.Field.{FieldLaws}
-use Rattle.field.specs.Symbols.{gf}
-use Rattle.word.specs.Word.{at, product}
-use Rattle.word.specs.Division.{coefficients, remainder, quotient, divides}
-use Rattle.word.specs.CyclicCode.{isCode}
-use Rattle.word.proofs.Sums.{Symbols}
-use Rattle.word.proofs.Place.{at-lt}
-use Rattle.word.proofs.Product.{product-cong}
-use Rattle.word.proofs.Quotient.{quotient-at, quotient-cong}
-use Rattle.array.specs.Stored.{place, Stored}
-use Rattle.array.proofs.Filled.{read-padded}
-use Rattle.book.specs.Book.{messageLength, isCodeWord}
-use Rattle.book.specs.Layout.{width, fieldOf, bookOf}
-use Rattle.codebook.specs.Params.{Describes}
-use Rattle.codebook.specs.declared.Params.{Params}
-use Rattle.codebook.proofs.Described.{n-high, book-laws, book-accepted, params-sizes, params-degree-sizes, generator-loaded, code-at}
-use Rattle.coding.specs.Coder.{encode, message}
-use Rattle.coder.specs.Refusals.{codeRefusal, coded, readInputRefusal, messageOf}
-use Rattle.coder.proofs.Accepting.{code-accepted, read-accepted, input-symbols}
+use Rattle.spec_range.specs.Fold.{all}
+use Rattle.spec_range.specs.Table.{table, padded}
+use Rattle.spec_range.proofs.Table.{table-length, table-same}
+use Rattle.spec_range.proofs.Loop.{padded-same}
+use Rattle.spec_field.specs.Symbols.{gf}
+use Rattle.spec_field.proofs.Gf.{gf-laws}
+use Rattle.spec_word.specs.Word.{at}
+use Rattle.spec_word.specs.Division.{coefficients}
+use Rattle.spec_word.specs.CyclicCode.{isCode}
+use Rattle.spec_word.proofs.Place.{at-lt}
+use Rattle.spec_word.proofs.Product.{product-cong}
+use Rattle.spec_book.specs.Book.{isCodeWord}
+use Rattle.spec_book.specs.Layout.{width, fieldOf, bookOf}
+use Rattle.spec_coding.specs.Coder.{encode, message}
+use Rattle.spec_operations.specs.Coding.{coded, messageOf}
+use Rattle.word_array.specs.Stored.{place, Sizes, Stored}
+use Rattle.word_table.specs.Multiples.{wordOf}
+use Rattle.word_table.specs.Rows.{turnedSum, Summands}
+use Rattle.word_table.proofs.Sums.{message-product}
+use Rattle.word_divide.specs.Window.{DividedBy}
+use Rattle.word_divide.proofs.Degree.{quotient-by, divides-by}
+use Rattle.word_divide.proofs.Dividing.{padded-stored, padded-divided, remains-test}
+use Rattle.book.specs.Opened.{OpenBook}
+use Rattle.book.specs.declared.Params.{Params}
+use Rattle.book.proofs.Described.{params-sizes, degree-low}
+use Rattle.coder.proofs.Opening.{Taken, word-is, word-low}
 
--- an array reads as an input does, at every place
-pub record Reads (input w : List ℕ) : Type 0 where
-  pub same : (j : ℕ) → place w j ≡ place input j
+module _ {bytes : List ℕ} {c : Params} {t : List ℕ} (b : OpenBook bytes c t) where
+  sizes : Sizes (c .p) (c .n)
+  sizes = params-sizes bytes c (b .describes)
 
--- an input that was loaded whole
-loaded-reads : (input : List ℕ) {w : List ℕ} {m : ℕ} → length input ≡ m → m ≤ 63 → w ≡ padded 63 m (λ j. place input (0 + j)) → Reads input w
-loaded-reads input {m = m} exact h e =
-    record {
-      same = λ j. ap (λ (v : List ℕ). place v j) e ∙ padded-reads 63 m (λ j. place input (0 + j)) h j ∙ ap (λ (v : List ℕ). place v j) whole;
-    }
-  where
-    whole : table m (λ j. place input (0 + j)) ≡ input
-    whole =
-        ext-getD 0 (table m (λ j. place input (0 + j))) input (table-length m _ ∙ sym exact) (λ i l.
-        table-at m (λ j. place input (0 + j)) (subst (λ (k : ℕ). i < k) (table-length m _) l) ∙ ap (place input) (omega arith))
+  -- an array of 64 places has as many as the output
+  pub room-within : {input : List ℕ} {size room wanted : ℕ} → Taken (c .p) input size room wanted → wanted ≤ c .n → (w : List ℕ) → length w ≡ 64
+      → room ≤ length w
+  room-within i h w e = omega (arith, i .room-is, sizes .n-high)
 
--- the symbols of a message and of a word that are not refused
-module _ (bytes input : List ℕ) (room : ℕ) where
-  pub message-symbols : codeRefusal bytes input room ≡ 0 → Symbols (fieldOf bytes) (coefficients input)
-  message-symbols z = let h = code-accepted bytes input room z in input-symbols (fieldOf bytes) (book-laws bytes (h .0)) (h .1)
+  -- ---- code
 
-  pub word-symbols : readInputRefusal bytes input room ≡ 0 → Symbols (fieldOf bytes) (coefficients input)
-  word-symbols z = let h = read-accepted bytes input room z in input-symbols (fieldOf bytes) (book-laws bytes (h .0)) (h .1)
+  module _ {f : List ℕ} {size room count : ℕ} (i : Taken (c .p) f size room (c .n)) (within : count ≤ c .n) where
+    -- the table has a row for each symbol from `start` on
+    pub rows : {start : ℕ} → start + count ≤ length f → Summands (c .n) count f start t
+    rows {start} h =
+        record {
+          n-high = sizes .n-high;
+          within = within;
+          room = h;
+          row = λ u l. omega (arith, i .symbol (start + u) (omega (arith, i .size-is)), b .table-is .multiples .size);
+        }
 
-module _ (bytes : List ℕ) (c : Params) (d : Describes bytes c) where
-  -- a loaded input holds symbols
-  pub loaded-stored : {input w : List ℕ} (n : ℕ) → Reads input w → Symbols (fieldOf bytes) (coefficients input) → Stored (c .p) n w
-  loaded-stored n reads h = record { symbol = λ j _. rw (d .p-is, reads .same j) (h j) }
+    pub word-long : {r : List ℕ} → r ≡ table 64 (turnedSum (c .n) count (λ u. place f (0 + u)) t) → length r ≡ 64
+    word-long hr = ap length hr ∙ table-length 64 _
 
-  -- a message and a word that are not refused are loaded whole
-  module _ (input : List ℕ) (room : ℕ) {w : List ℕ} where
-    pub message-reads : codeRefusal bytes input room ≡ 0 → w ≡ padded 63 (c .n - c .degree) (λ j. place input (0 + j)) → Reads input w
-    message-reads z =
-        loaded-reads input (code-accepted bytes input room z .1 .size ∙ sym (rw (d .n-is, d .degree-is))) (omega (arith, params-sizes bytes c d .n-high))
+    pub word-coded : {r out : List ℕ} → count ≡ size → r ≡ table 64 (turnedSum (c .n) count (λ u. place f (0 + u)) t) → out ≡ table room (place r)
+        → out ≡ coded bytes f
+    unfolding encode
+    word-coded {r} whole hr ho =
+        ho ∙ ap (λ (k : ℕ). table k (place r)) (i .room-is)
+        ∙ table-same (c .n) (λ j l.
+        message-product f sizes (b .table-is .multiples) within (le-of-eq (i .size-is ∙ sym whole)) (λ u d. i .symbol u (omega arith)) hr j l
+        ∙ product-cong (gf (c .p)) (gf-laws (c .p) (sizes .p-low) (sizes .p-high)) (c .n) (λ u _. refl) (word-is b) j)
+        ∙ rw (b .describes .p-is, b .describes .n-is)
 
-    pub word-reads : readInputRefusal bytes input room ≡ 0 → w ≡ padded 63 (c .n) (λ j. place input (0 + j)) → Reads input w
-    word-reads z = loaded-reads input (read-accepted bytes input room z .1 .size ∙ sym (d .n-is)) (params-sizes bytes c d .n-high)
+  -- ---- read
 
-  -- the generator that was loaded holds symbols
-  pub generator-stored : {n : ℕ} {g : List ℕ} → g ≡ padded 63 (c .n) (λ j. place bytes (4 + j)) → Stored (c .p) n g
-  generator-stored hg =
-      record { symbol = λ j l. rw (d .p-is, generator-loaded bytes c d refl hg j) (book-accepted bytes (d .accepted) .generates .symbols j) }
+  module _ (word : List ℕ) {v : List ℕ} (loaded : v ≡ padded 63 (c .n) (λ j. place word (0 + j))) where
+    pub word-stored : {room wanted : ℕ} → Taken (c .p) word (c .n) room wanted → Stored (c .p) (c .n) v
+    word-stored i = padded-stored loaded (sizes .n-high) (λ j l. i .symbol (0 + j) (omega arith))
 
-  module _ {g input w : List ℕ} (hg : g ≡ padded 63 (c .n) (λ j. place bytes (4 + j))) (reads : Reads input w) where
-    generator-is : (j : ℕ) → place g j ≡ bookOf width bytes .generator j
-    generator-is = generator-loaded bytes c d refl hg
+    module _ {q r : List ℕ} (h : DividedBy (c .p) (c .n) (c .degree) (wordOf (c .n) t) (place v) q r) where
+      divided : DividedBy (c .p) (c .n) (c .degree) (wordOf (c .n) t) (at (c .n) word) q r
+      divided =
+          padded-divided (loaded ∙ padded-same 63 (c .n) (λ j l. ap (place word) (omega arith) ∙ sym (at-lt (c .n) word l))) (sizes .n-high) sizes
+          (degree-low bytes c (b .describes)) h
 
-    pub word-coded : {room : ℕ} {product63 out : List ℕ} → room ≡ bookOf width bytes .n
-        → product63 ≡ padded 63 (c .n) (product (gf (c .p)) (c .n) (at (c .n) w) (at (c .n) g)) → out ≡ table room (place product63)
-        → out ≡ coded bytes input
-    unfolding encode at
-    word-coded {room} {product63} {out} hr hp ho =
-        ho ∙ ap (λ (k : ℕ). table k (place product63)) hr
-        ∙ table-same (bookOf width bytes .n) (λ j l.
-        read-padded _ hp′ (n-high bytes (d .accepted)) l
-        ∙ product-cong (fieldOf bytes) (book-laws bytes (d .accepted)) (bookOf width bytes .n)
-        (λ u b. at-lt (bookOf width bytes .n) w b ∙ reads .same u) (λ i. generator-is (i % bookOf width bytes .n)) j)
-      where
-        hp′ : product63 ≡ padded 63 (bookOf width bytes .n) (product (fieldOf bytes) (bookOf width bytes .n) (at (bookOf width bytes .n) w) (at (bookOf width bytes .n) g))
-        hp′ = rw (d .p-is, d .n-is) at hp
+      -- the test of the remainder's places
+      pub word-tested : {count : ℕ} {zero : Bool} → zero ≡ all count (λ j. eqb (place r j) 0) → count ≡ c .degree
+          → zero ≡ isCodeWord (fieldOf bytes) (bookOf width bytes) (at (bookOf width bytes .n) word)
+      unfolding isCode
+      word-tested e k =
+          e ∙ ap (λ (d : ℕ). all d (λ j. eqb (place r j) 0)) k ∙ remains-test (divided .remains)
+          ∙ divides-by (gf (c .p)) (c .degree) (word-low b) (c .n) (at (c .n) word)
+          ∙ rw (b .describes .p-is, b .describes .n-is, b .describes .degree-is)
 
-    -- the remainder that is tested is the definition's
-    pub word-tested : {t : Bool} {rest : List ℕ} → rest ≡ padded 63 (c .degree) (coefficients (remainder (gf (c .p)) (c .degree) (place g) (c .n) (place w)))
-        → t ≡ all (c .degree) (λ j. eqb (place rest j) 0) → t ≡ isCodeWord (fieldOf bytes) (bookOf width bytes) (at (bookOf width bytes .n) input)
-    unfolding isCode divides
-    word-tested {t} {rest} hr ht =
-        ht ∙ fold-cong _&&_ true (c .degree) (λ j l. ap (λ (x : ℕ). eqb x 0) (read-padded _ hr (params-degree-sizes bytes c d .n-high) l))
-        ∙ same ∙ code-at bytes (d .accepted) input
-      where
-        same : isCode (gf (c .p)) (c .n) (c .degree) (place g) (place w)
-            ≡ isCode (fieldOf bytes) (bookOf width bytes .n) (bookOf width bytes .degree) (bookOf width bytes .generator) (place input)
-        same = rw (d .p-is, d .n-is, d .degree-is, fun-ext generator-is, fun-ext (reads .same))
-
-    pub word-read : {room : ℕ} {quotient63 out : List ℕ} → room ≡ messageLength (bookOf width bytes)
-        → quotient63 ≡ padded 63 (c .n) (coefficients (quotient (gf (c .p)) (c .degree) (place g) (c .n) (place w))) → out ≡ table room (place quotient63)
-        → out ≡ messageOf bytes input
-    unfolding message
-    word-read {room} {quotient63} {out} hr hq ho =
-        ho ∙ ap (λ (k : ℕ). table k (place quotient63)) hr
-        ∙ table-same (messageLength (bookOf width bytes)) (λ j l.
-        read-padded _ hq′ (n-high bytes (d .accepted)) (omega arith)
-        ∙ quotient-at (fieldOf bytes) (bookOf width bytes .degree) (bookOf width bytes .generator) laws pos (bookOf width bytes .n) (place input) j
-        ∙ quotient-cong (fieldOf bytes) (bookOf width bytes .degree) (bookOf width bytes .generator) laws pos (bookOf width bytes .n) (place input)
-        (at (bookOf width bytes .n) input) (λ i b. sym (at-lt (bookOf width bytes .n) input b)) j
-        ∙ sym (quotient-at (fieldOf bytes) (bookOf width bytes .degree) (bookOf width bytes .generator) laws pos (bookOf width bytes .n) (at (bookOf width bytes .n) input) j))
-      where
-        laws : FieldLaws (fieldOf bytes)
-        laws = book-laws bytes (d .accepted)
-
-        pos : 0 < bookOf width bytes .degree
-        pos = book-accepted bytes (d .accepted) .generates .degree-pos
-
-        hq′ : quotient63 ≡ padded 63 (bookOf width bytes .n)
-            (coefficients (quotient (fieldOf bytes) (bookOf width bytes .degree) (bookOf width bytes .generator) (bookOf width bytes .n) (place input)))
-        hq′ = rw (d .p-is, d .n-is, d .degree-is, fun-ext generator-is, fun-ext (reads .same)) at hq
+      pub word-read : {room : ℕ} {out : List ℕ} → room ≡ c .n - c .degree → out ≡ table room (place q) → out ≡ messageOf bytes word
+      unfolding message
+      word-read hr ho =
+          ho ∙ ap (λ (k : ℕ). table k (place q)) hr
+          ∙ table-same (c .n - c .degree) (λ i l.
+          divided .places i l
+          ∙ ap (λ (Q : List ℕ). coefficients Q i) (quotient-by (gf (c .p)) (c .degree) (word-low b) (c .n) (at (c .n) word)))
+          ∙ rw (b .describes .p-is, b .describes .n-is, b .describes .degree-is)

@@ -1,90 +1,83 @@
 // Coding a message and reading it back, for all inputs.
-ghost use mathlib.Core.Path.{_≡_};
+ghost use mathlib.Core.List.{List};
+ghost use Prim.Native.Nat.{ℕ};
 ghost use lib.ListN.{length};
-ghost use Rattle.inputs.specs.Wrote.{Wrote};
-ghost use Rattle.coder.specs.Refusals.{codeRefusal, coded, readInputRefusal, codeWordRefusal, readRefusal, messageOf};
-use inputs::Done;
+ghost use Rattle.spec_operations.specs.Wrote.{Wrote};
+ghost use Rattle.spec_operations.specs.Coding.{codeInputRefusal, codeRefusal, coded, readWordRefusal, readRefusal, messageOf};
+ghost use Rattle.refusals.specs.Said.{said};
+ghost use Rattle.book.specs.Opened.{OpenBook, SomeBook};
+use book::Opened;
+use book::Params;
+use refusals::Done;
 
 pub mod trips;
-
-// The first refusal number of code, for an output of `room` bytes, or 0.
-fn code_refusal(book: &[u8], message: &[u8], room: usize) -> u8
-    ensures { λ r. ⌜ r ≡ codeRefusal (now (book .entry)) (now (message .entry)) room ⌝ }
-{
-    let number = codebook::refusal(book);
-    if number != 0 {
-        return number;
-    }
-    let c = codebook::describe(book);
-    inputs::refusal(field::order(c.p), c.n - c.degree, message, room == c.n)
-}
-
-// Writes the code word of a message that is not refused.
-fn write_word(book: &[u8], message: &[u8], word: &mut [u8])
-    requires { ⌜ codeRefusal (now book) (now message) (length (now word)) ≡ 0 ⌝ }
-    ensures { λ _. ⌜ now (word .exit) ≡ coded (now (book .entry)) (now (message .entry)) ⌝ }
-{
-    let c = codebook::describe(book);
-    let n = c.n;
-    let f = array::load(message, 0, n - c.degree);
-    let g = array::load(book, 4, n);
-    array::store(polynomials::cyclic_product(c.p, n, f, g), word);
-}
 
 // Code a message of k symbols into a word of n.
 pub fn code(book: &[u8], message: &[u8], word: &mut [u8]) -> Done
     ensures { λ r. ⌜ Wrote (codeRefusal (now (book .entry)) (now (message .entry)) (length (now (word .entry))))
-        (coded (now (book .entry)) (now (message .entry))) (now (word .entry)) r (now (word .exit)) ⌝ }
+        (coded (now (book .entry)) (now (message .entry))) (now (word .entry)) (said r) (now (word .exit)) ⌝ }
 {
-    let number = code_refusal(book, message, word.len());
+    let mut t = book::table_room();
+    let opened = book::open(book, &mut t);
+    match opened {
+        Opened::Refused(number) => Done::Refused(number),
+        Opened::Open(c) => code_message(c, &t, message, word),
+    }
+}
+
+// The same once the book is open: the product with the generator is read off the generator's table.
+fn code_message(c: Params, t: &[u8], message: &[u8], word: &mut [u8]) -> Done
+    requires { ⌜ SomeBook c (now t) ⌝ }
+    ensures { λ r. ⌜ ((bytes : List ℕ) → OpenBook bytes c (now (t .entry))
+        → Wrote (codeInputRefusal bytes (now (message .entry)) (length (now (word .entry))))
+        (coded bytes (now (message .entry))) (now (word .entry)) (said r) (now (word .exit))) ⌝ }
+{
+    let n = c.n;
+    let k = n - c.degree;
+    let q = field::order(c.p);
+    let number = refusals::refusal(q, message.len() == k, word.len() == n, message);
     if number != 0 {
         return Done::Refused(number);
     }
-    write_word(book, message, word);
-    Done::Made
-}
-
-// The first refusal number of read up to 11, for an output of `room` bytes, or 0.
-fn read_input_refusal(book: &[u8], word: &[u8], room: usize) -> u8
-    ensures { λ r. ⌜ r ≡ readInputRefusal (now (book .entry)) (now (word .entry)) room ⌝ }
-{
-    let number = codebook::refusal(book);
-    if number != 0 {
-        return number;
-    }
-    let c = codebook::describe(book);
-    inputs::refusal(field::order(c.p), c.n, word, room == c.n - c.degree)
-}
-
-// Writes the message of a word that is not refused by 1 to 11, or refuses it by 12: one division tells both.
-fn write_message(book: &[u8], word: &[u8], message: &mut [u8]) -> Done
-    requires { ⌜ readInputRefusal (now book) (now word) (length (now message)) ≡ 0 ⌝ }
-    ensures { λ r. ⌜ Wrote (codeWordRefusal (now (book .entry)) (now (word .entry))) (messageOf (now (book .entry)) (now (word .entry)))
-        (now (message .entry)) r (now (message .exit)) ⌝ }
-{
-    let c = codebook::describe(book);
-    let n = c.n;
-    let d = c.degree;
-    let w = array::load(word, 0, n);
-    let g = array::load(book, 4, n);
-    let parts = polynomials::divide(c.p, n, d, g, w);
-    let remainder = parts.remainder;
-    if !array::is_zero(d, remainder) {
-        return Done::Refused(12);
-    }
-    let quotient = parts.quotient;
-    array::store(quotient, message);
+    let product = word_table::product(n, k, message, 0, t);
+    word_array::store(&product, word);
     Done::Made
 }
 
 // Read the message of a code word.
 pub fn read(book: &[u8], word: &[u8], message: &mut [u8]) -> Done
     ensures { λ r. ⌜ Wrote (readRefusal (now (book .entry)) (now (word .entry)) (length (now (message .entry))))
-        (messageOf (now (book .entry)) (now (word .entry))) (now (message .entry)) r (now (message .exit)) ⌝ }
+        (messageOf (now (book .entry)) (now (word .entry))) (now (message .entry)) (said r) (now (message .exit)) ⌝ }
 {
-    let number = read_input_refusal(book, word, message.len());
+    let mut t = book::table_room();
+    let opened = book::open(book, &mut t);
+    match opened {
+        Opened::Refused(number) => Done::Refused(number),
+        Opened::Open(c) => read_word(c, &t, word, message),
+    }
+}
+
+// The same once the book is open: one division tells whether it is a code word, and gives the message.
+fn read_word(c: Params, t: &[u8], word: &[u8], message: &mut [u8]) -> Done
+    requires { ⌜ SomeBook c (now t) ⌝ }
+    ensures { λ r. ⌜ ((bytes : List ℕ) → OpenBook bytes c (now (t .entry))
+        → Wrote (readWordRefusal bytes (now (word .entry)) (length (now (message .entry))))
+        (messageOf bytes (now (word .entry))) (now (message .entry)) (said r) (now (message .exit))) ⌝ }
+{
+    let n = c.n;
+    let d = c.degree;
+    let k = n - d;
+    let q = field::order(c.p);
+    let number = refusals::refusal(q, word.len() == n, message.len() == k, word);
     if number != 0 {
         return Done::Refused(number);
     }
-    write_message(book, word, message)
+    let parts = word_divide::divide(c.p, n, d, t, word_array::load(word, 0, n));
+    let remainder = parts.remainder;
+    if !word_array::is_zero(d, &remainder) {
+        return Done::Refused(12);
+    }
+    let quotient = parts.quotient;
+    word_array::store(&quotient, message);
+    Done::Made
 }

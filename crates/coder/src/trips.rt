@@ -1,11 +1,13 @@
-// Two calls, one after the other: a frame is read back from its word, and a code word is made again from its frame.
+// Two calls, one after the other: a message is read back from its word, and a code word is made again from its message.
 ghost use mathlib.Core.Path.{_≡_};
 ghost use lib.ListN.{length};
-ghost use Rattle.book.specs.Book.{messageLength};
-ghost use Rattle.book.specs.Layout.{width, bookOf};
-ghost use Rattle.coder.specs.Refusals.{codeRefusal, readRefusal};
-ghost use Rattle.coder.specs.Trips.{Returned};
-use inputs::Done;
+ghost use Rattle.spec_book.specs.Book.{messageLength};
+ghost use Rattle.spec_book.specs.Layout.{width, bookOf};
+ghost use Rattle.spec_operations.specs.Wrote.{Wrote};
+ghost use Rattle.spec_operations.specs.Coding.{codeRefusal, coded, readRefusal, messageOf};
+ghost use Rattle.spec_operations.specs.Trips.{GivenBack};
+ghost use Rattle.refusals.specs.Said.{said};
+use refusals::Done;
 
 // What the two calls answer.
 pub struct Both {
@@ -13,22 +15,30 @@ pub struct Both {
     pub second: Done,
 }
 
-// Reading what was coded gives the message.
+// Both calls answer and write what the definitions say, whatever is given; and a message that is accepted is read back from the word that it was coded into.
 pub fn code_then_read(book: &[u8], message: &[u8], word: &mut [u8], back: &mut [u8]) -> Both
+    ensures { λ r. ⌜ Wrote (codeRefusal (now (book .entry)) (now (message .entry)) (length (now (word .entry))))
+        (coded (now (book .entry)) (now (message .entry))) (now (word .entry)) (said (r .first)) (now (word .exit)) ⌝ }
+    ensures { λ r. ⌜ Wrote (readRefusal (now (book .entry)) (now (word .exit)) (length (now (back .entry))))
+        (messageOf (now (book .entry)) (now (word .exit))) (now (back .entry)) (said (r .second)) (now (back .exit)) ⌝ }
     ensures { λ r. ⌜ (codeRefusal (now (book .entry)) (now (message .entry)) (length (now (word .entry))) ≡ 0
         → length (now (back .entry)) ≡ messageLength (bookOf width (now (book .entry)))
-        → Returned r (now (message .entry)) (now (back .exit))) ⌝ }
+        → GivenBack (said (r .first)) (said (r .second)) (now (message .entry)) (now (back .exit))) ⌝ }
 {
     let first = crate::code(book, message, word);
     let second = crate::read(book, word, back);
     Both { first, second }
 }
 
-// Coding what was read gives the code word.
+// The same the other way round: a code word that is accepted is made again from the message that was read.
 pub fn read_then_code(book: &[u8], word: &[u8], message: &mut [u8], back: &mut [u8]) -> Both
+    ensures { λ r. ⌜ Wrote (readRefusal (now (book .entry)) (now (word .entry)) (length (now (message .entry))))
+        (messageOf (now (book .entry)) (now (word .entry))) (now (message .entry)) (said (r .first)) (now (message .exit)) ⌝ }
+    ensures { λ r. ⌜ Wrote (codeRefusal (now (book .entry)) (now (message .exit)) (length (now (back .entry))))
+        (coded (now (book .entry)) (now (message .exit))) (now (back .entry)) (said (r .second)) (now (back .exit)) ⌝ }
     ensures { λ r. ⌜ (readRefusal (now (book .entry)) (now (word .entry)) (length (now (message .entry))) ≡ 0
         → length (now (back .entry)) ≡ bookOf width (now (book .entry)) .n
-        → Returned r (now (word .entry)) (now (back .exit))) ⌝ }
+        → GivenBack (said (r .first)) (said (r .second)) (now (word .entry)) (now (back .exit))) ⌝ }
 {
     let first = crate::read(book, word, message);
     let second = crate::code(book, message, back);

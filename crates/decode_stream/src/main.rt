@@ -1,4 +1,4 @@
-// The program: document 01, "Program". See the crate `stream`.
+// The program: SCOPE 6. See the crates `stream` and `stream_io`.
 fn main() {
-    stream::run();
+    stream_io::run();
 }

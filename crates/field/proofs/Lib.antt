@@ -1,10 +1,1 @@
-pub mod Xor
-pub mod ShiftAdd
-pub mod Laws
-pub mod Computed
-pub mod First
-pub mod Power
-pub mod Gf
-pub mod Doubling
 pub mod Masks
-pub mod Refusals

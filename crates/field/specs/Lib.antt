@@ -1,4 +1,1 @@
-pub mod Field
-pub mod Symbols
-pub mod Answer
-pub mod Operations
+pub mod Said

@@ -1,8 +1,9 @@
 // The symbols of GF(2^p), p from 1 to 6: sum, product and inverse. The contracts cite the definitions of specs/.
 ghost use mathlib.Core.Path.{_≡_};
 ghost use Prim.Native.Nat.{_*_, _%_, _^_, _<_, _≤_};
-ghost use Rattle.field.specs.Symbols.{polynomial, timesX, product, inverse};
-ghost use Rattle.field.specs.Operations.{said, refusal, inverseRefusal, sumAnswer, productAnswer, inverseAnswer};
+ghost use Rattle.spec_field.specs.Symbols.{polynomial, timesX, product, inverse};
+ghost use Rattle.field.specs.Said.{said};
+ghost use Rattle.spec_field.specs.Operations.{fieldRefusal, inverseRefusal, sumAnswer, productAnswer, inverseAnswer};
 
 // The polynomials 1, 3, 7, 11, 19, 37 and 91 for p from 0 to 6, a byte each, lowest first. (An array would be laid out anew at each use.)
 const POLYNOMIALS: u64 = 0x5b_25_13_0b_07_03_01;
@@ -86,7 +87,7 @@ pub fn inv(p: u8, a: u8) -> u8
 
 // The first refusal that applies to p, `a` and `b`, or 0.
 fn refusal(p: u8, a: u8, b: u8) -> u8
-    ensures { λ r. ⌜ r ≡ refusal p a b ⌝ }
+    ensures { λ r. ⌜ r ≡ fieldRefusal p a b ⌝ }
 {
     if p == 0 {
         return 3;

@@ -9,26 +9,25 @@ use native.Mathlib.Decide.{decLt}
 use native.Mathlib.Omega.{arith}
 use lib.Dec.{eqb, eqb→eq, leb→le}
 use lib.ListN.{length}
-use Rattle.range.specs.Fold.{indicator}
-use Rattle.range.proofs.Tests.{and-left, and-right}
-use Rattle.range.proofs.Fold.{fold-cong}
-use Rattle.range.proofs.Table.{table-same}
-use Rattle.field.specs.Field.{FieldLaws}
-use Rattle.field.specs.Symbols.{gf}
-use Rattle.field.proofs.Gf.{gf-laws}
-use Rattle.word.specs.Word.{nonzero}
-use Rattle.array.specs.Stored.{Sizes, Stored}
-use Rattle.book.specs.Book.{Book}
-use Rattle.book.specs.Layout.{width, dualAt, dualCount, sizeExponent, symbolDigits, fieldOf, bookOf}
-use Rattle.book.specs.Conditions.{lengthOk, sizesOk}
-use Rattle.book.proofs.Sound.{sound}
-use Rattle.book.proofs.Accepting.{accepted}
-use Rattle.powers.specs.Powers.{PowersOf}
-use Rattle.counting.specs.Count.{placeCounts, dualCounts, counted}
-use Rattle.counting.specs.Terms.{Termed, Filling, dualOf}
-use Rattle.counting.specs.Listed.{Listable}
-use Rattle.decoding.specs.Matrix.{checkValue, entryOf, matrixOf, matrix}
-use Rattle.decoding.proofs.Matrix.{check-product}
+use Rattle.spec_range.specs.Fold.{indicator}
+use Rattle.spec_range.proofs.Tests.{and-left, and-right}
+use Rattle.spec_range.proofs.Fold.{fold-cong}
+use Rattle.spec_range.proofs.Table.{table-same}
+use Rattle.spec_field.specs.Field.{FieldLaws}
+use Rattle.spec_field.specs.Symbols.{gf}
+use Rattle.spec_field.proofs.Gf.{gf-laws}
+use Rattle.spec_word.specs.Word.{nonzero}
+use Rattle.word_array.specs.Stored.{Sizes, Stored}
+use Rattle.spec_book.specs.Book.{Book}
+use Rattle.spec_book.specs.Layout.{width, dualAt, dualCount, sizeExponent, symbolDigits, fieldOf, bookOf}
+use Rattle.spec_book.specs.Conditions.{lengthOk, sizesOk}
+use Rattle.spec_book.proofs.Sound.{sound}
+use Rattle.spec_book.proofs.Accepting.{accepted}
+use Rattle.matrix_terms.specs.Count.{placeCounts, dualCounts, counted}
+use Rattle.matrix_terms.specs.Terms.{TermsOf, Filling, dualOf}
+use Rattle.matrix_terms.specs.Listed.{Listable}
+use Rattle.spec_decoding.specs.Matrix.{checkValue, entryOf, matrixOf, matrix}
+use Rattle.spec_decoding.proofs.Matrix.{check-product}
 use Rattle.matrix.specs.Fill.{Fillable}
 
 -- the matrix by what each dual word counts
@@ -59,7 +58,7 @@ module _ {bytes : List ℕ} {p n duals : ℕ} (ok : Fillable bytes p n duals) wh
   unfolding lengthOk
   few-duals = let t = sound width bytes (ok .accepted) .length-ok in rw (ok .duals-is) (leb→le _ 32 (search (and-left, and-right) depth 5))
 
-  -- the offsets can be listed
+  -- the terms can be listed
   pub listable : Listable bytes p n duals
   unfolding lengthOk bookOf
   listable =
@@ -77,11 +76,10 @@ module _ {bytes : List ℕ} {p n duals : ℕ} (ok : Fillable bytes p n duals) wh
       }
 
   -- and the matrix filled
-  pub filling : {weight : ℕ} {exps logs sums turns r m : List ℕ} → PowersOf p exps logs → Termed bytes p n duals weight logs sums turns
-      → Stored p n r → length m ≡ 2 ^ p * n → Filling bytes p n duals weight exps logs sums turns r m
-  filling x t r m =
-      record { sizes = fill-sizes; few-duals = few-duals; powers = x; terms = t; word = r; size = m }
+  pub filling : {terms r m : List ℕ} → TermsOf p n duals (dualOf bytes) terms → Stored p n r → length m ≡ 2 ^ p * n → Filling p n duals terms r m
+  filling t r m = record { words = dualOf bytes; terms-of = t; word = r; size = m }
 
+  -- what its dual words count is the matrix
   pub all-duals : (r : ℕ → ℕ) → counted p n (dualOf bytes) duals r ≡ matrix (fieldOf bytes) (bookOf width bytes) r
   unfolding bookOf
   all-duals r =

@@ -4,8 +4,8 @@ use mathlib.Core.Path.{_≡_}
 use mathlib.Core.List.{List}
 use Prim.Native.Nat.{ℕ}
 use lib.ListN.{length}
-use Rattle.book.specs.Layout.{width, dualCount, symbolDigits, wordLength}
-use Rattle.book.specs.Conditions.{refusal}
+use Rattle.spec_book.specs.Layout.{width, dualCount, symbolDigits, wordLength}
+use Rattle.spec_book.specs.Conditions.{refusal}
 
 -- the bytes are accepted, and p, n and L are theirs
 pub record Fillable (bytes : List ℕ) (p n duals : ℕ) : Type 0 where

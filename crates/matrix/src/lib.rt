@@ -1,16 +1,15 @@
 // The frequency matrix of a word, counted into a lent buffer of q * n numbers: entry (i, j) at i * n + j.
 ghost use mathlib.Core.Path.{_≡_};
-ghost use Prim.Native.Nat.{_*_, _^_};
+ghost use mathlib.Core.List.{List};
+ghost use Prim.Native.Nat.{ℕ, _+_, _%_, _≤_};
 ghost use lib.ListN.{length};
-ghost use Rattle.range.specs.Table.{table};
-ghost use Rattle.word.specs.Word.{at};
-ghost use Rattle.array.specs.Stored.{Stored};
-ghost use Rattle.powers.specs.Powers.{PowersOf};
-ghost use Rattle.counting.specs.Terms.{Termed};
-ghost use Rattle.book.specs.Layout.{width, fieldOf, bookOf};
-ghost use Rattle.decoding.specs.Matrix.{matrix};
+ghost use Rattle.spec_range.specs.Table.{table};
+ghost use Rattle.spec_word.specs.Word.{at};
+ghost use Rattle.matrix_terms.specs.Terms.{dualOf, TermsOf, Filling};
+ghost use Rattle.spec_book.specs.Layout.{width, fieldOf, bookOf};
+ghost use Rattle.spec_decoding.specs.Matrix.{matrix};
 ghost use Rattle.matrix.specs.Fill.{Fillable};
-use powers::Logs;
+use sizes::Word;
 
 // Sets every entry to 0.
 pub fn clear(m: &mut [u16])
@@ -24,33 +23,15 @@ pub fn clear(m: &mut [u16])
     }
 }
 
-// Room for the offsets of every dual word's nonzero places, in rows of 64.
-pub fn offset_room() -> [u16; 2048]
-    ensures { λ r. ⌜ 2048 ≡ length r ⌝ }
+// Fills the matrix of the word r over the dual words whose terms are listed: by marks where symbols are few, and else by scattering.
+pub fn fill(p: u8, n: usize, duals: usize, terms: &[u16], r: Word, m: &mut [u16])
+    requires { ⌜ Filling p n duals (now terms) r (now m) × (4 ≤ p → (n + 1) % 8 ≡ 0) ⌝ }
+    ensures { λ _. ⌜ ((bytes : List ℕ) → Fillable bytes p n duals → TermsOf p n duals (dualOf bytes) (now (terms .entry))
+        → now (m .exit) ≡ matrix (fieldOf bytes) (bookOf width bytes) (at n r)) ⌝ }
 {
-    [0; 2048]
-}
-
-// Fills the matrix of the word r over the dual words of an accepted book, whose offsets are made: by marks where symbols are few, and else by scattering.
-pub fn fill(
-    book: &[u8],
-    p: u8,
-    n: usize,
-    duals: usize,
-    weight: usize,
-    x: Logs,
-    sums: &[u16],
-    turns: &[u16],
-    r: [u8; 63],
-    m: &mut [u16],
-)
-    requires { ⌜ Fillable (now book) p n duals × PowersOf p (x .exps) (x .logs) × Termed (now book) p n duals weight (x .logs) (now sums) (now turns)
-        × Stored p n r × (length (now m) ≡ 2 ^ p * n) ⌝ }
-    ensures { λ _. ⌜ now (m .exit) ≡ matrix (fieldOf (now (book .entry))) (bookOf width (now (book .entry))) (at n r) ⌝ }
-{
-    if p < 4 {
-        marks::fill(book, p, n, duals, weight, x, sums, turns, r, m);
+    if sizes::few(p) {
+        matrix_marks::fill(p, n, duals, terms, r, m);
     } else {
-        scatter::fill(book, p, n, duals, weight, x, sums, turns, r, m);
+        matrix_scatter::fill(p, n, duals, terms, r, m);
     }
 }

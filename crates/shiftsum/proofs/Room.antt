@@ -1,48 +1,34 @@
--- A decode over the C boundary, from what its calls ensure.
+-- A decode over the C boundary: with a matrix of the book's own size, so that its size is never refused.
 -- Assumes nothing.
-use mathlib.Core.Path.{_≡_, ap, _∙_}
+use mathlib.Core.Path.{_≡_, refl, sym, ap, _∙_}
 use mathlib.Core.List.{List}
-use Prim.Native.Nat.{ℕ, _*_, _^_, _≤_}
-use native.Mathlib.Nat.{mul-le-mul}
-use lib.Pow.{pow-mono}
-use Rattle.field.specs.Answer.{answer}
-use Rattle.field.proofs.Refusals.{answers-refused}
-use Rattle.book.specs.Layout.{width}
-use Rattle.book.specs.Conditions.{refusal}
-use Rattle.book.specs.Inputs.{left}
-use Rattle.inputs.proofs.Wrote.{left-refused}
-use Rattle.codebook.specs.Params.{Describes}
-use Rattle.codebook.specs.declared.Params.{Params}
-use Rattle.decoder.specs.Refusals.{matrixSize, decodeInputRefusal, decodeRefusal, decodeBytes}
-use Rattle.decoder.specs.Decoded.{said, values, Decodes}
-use Rattle.decoder.specs.declared.Decoded.{Decoded}
-use Rattle.decoder.proofs.Answering.{decode-refused, decode-accepted}
-use Rattle.shiftsum.specs.Packed.{packed, DecodedInto}
+use Prim.Native.Nat.{ℕ, zero, suc, _*_}
+use Rattle.spec_field.specs.Answer.{Answer, answer, orElse, left}
+use Rattle.spec_book.specs.Layout.{width, fieldOf}
+use Rattle.spec_book.specs.Conditions.{refusal}
+use Rattle.spec_book.proofs.Known.{n-word-length}
+use Rattle.spec_operations.specs.Decoding.{matrixSize, decodeInputRefusal, decodeRefusal, decodeBytes, values, Decodes}
+use Rattle.spec_operations.specs.Packed.{packed, Returns}
+use Rattle.book.specs.Opened.{MatrixSize}
 
--- the entries of a matrix of at most 8 symbols
-pub few-entries : (p : ℕ) {n : ℕ} → p ≤ 3 → n ≤ 63 → 2 ^ p * n ≤ 504
-few-entries p {n} h l = mul-le-mul {n₂ = 8} {m₂ = 63} (pow-mono h) l
+-- a book that is refused is so whatever the matrix, and for any other the size is exact
+sized : (bytes received : List ℕ) (room : ℕ) {size : ℕ} → MatrixSize bytes size
+    → decodeRefusal bytes received room size ≡ decodeRefusal bytes received room (matrixSize bytes)
+unfolding decodeRefusal
+sized bytes received room {size} h = go (refusal width bytes) refl
+  where
+    go : (k : ℕ) → refusal width bytes ≡ k
+        → orElse k (decodeInputRefusal bytes received room size) ≡ orElse k (decodeInputRefusal bytes received room (matrixSize bytes))
+    go zero e =
+        let exact : size ≡ matrixSize bytes = h .exact e ∙ ap (λ (n : ℕ). fieldOf bytes .q * n) (sym (n-word-length bytes e)) in
+        ap (decodeInputRefusal bytes received room) exact
+    go (suc k) e = refl
 
-module _ (bytes received : List ℕ) (room : ℕ) (word : List ℕ) where
-  -- the book is refused
-  pub into-refused : {n : ℕ} → n ≡ refusal width bytes → (n ≡ 0 → ⊥)
-      → DecodedInto (decodeRefusal bytes received room (matrixSize bytes)) (decodeBytes bytes received) word n word
-  into-refused {n} e h =
-      let number = decode-refused bytes received e h room (matrixSize bytes) in
-      record {
-        returns = ap packed (answers-refused n _ (values (decodeBytes bytes received)) number h);
-        buffer = left-refused n _ (decodeBytes bytes received .answer) word number h;
-      }
-
--- the book is accepted, and its parameters are c
-pub into-decoded : (bytes : List ℕ) (c : Params) → Describes bytes c → (received : List ℕ) (room : ℕ) (word₀ : List ℕ)
-    {n size : ℕ} {entries₀ word entries : List ℕ} {a : Decoded} {r : ℕ} → n ≡ refusal width bytes → n ≡ 0 → size ≡ 2 ^ c .p * c .n
-    → Decodes (decodeInputRefusal bytes received room size) (decodeBytes bytes received) word₀ entries₀ a word entries → r ≡ packed (said a)
-    → DecodedInto (decodeRefusal bytes received room (matrixSize bytes)) (decodeBytes bytes received) word₀ r word
-into-decoded bytes c d received room word₀ {size = size} e z hs h p =
-    let exact : size ≡ matrixSize bytes = rw (d .p-is, d .n-is) at hs in
-    let number : decodeInputRefusal bytes received room size ≡ decodeRefusal bytes received room (matrixSize bytes) =
-    ap (decodeInputRefusal bytes received room) exact ∙ decode-accepted bytes received e z room (matrixSize bytes) in
+pub decoded-into : (bytes received : List ℕ) (room : ℕ) {size r : ℕ} {word₀ entries₀ word entries : List ℕ} {a : Answer} → MatrixSize bytes size
+    → Decodes (decodeRefusal bytes received room size) (decodeBytes bytes received) word₀ entries₀ a word entries → r ≡ packed a
+    → Returns (decodeRefusal bytes received room (matrixSize bytes)) (values (decodeBytes bytes received)) (decodeBytes bytes received .answer) word₀ r word
+decoded-into bytes received room {word₀ = word₀} m h p =
+    let number = sized bytes received room m in
     record {
       returns = p ∙ ap packed (h .says ∙ ap (λ (k : ℕ). answer k (values (decodeBytes bytes received))) number);
       buffer = h .answer-buffer ∙ ap (λ (k : ℕ). left k (decodeBytes bytes received .answer) word₀) number;

@@ -1,19 +1,19 @@
 // The C boundary: check, code, read and decode on numbers and byte slices. A `&[u8]` is a pointer and a length in C. The matrix is a local buffer.
 ghost use mathlib.Core.Path.{_≡_};
-ghost use Prim.Native.Nat.{_*_, _^_, _≤_};
+ghost use mathlib.Core.List.{[]};
 ghost use lib.ListN.{length};
-ghost use Rattle.field.specs.Answer.{answer};
-ghost use Rattle.inputs.specs.Wrote as wrote;
-ghost use Rattle.codebook.specs.Params as checks;
-ghost use Rattle.codebook.specs.Params.{checkAnswer, Describes};
-ghost use Rattle.coder.specs.Refusals.{codeRefusal, coded, readRefusal, messageOf};
-ghost use Rattle.decoder.specs.Refusals.{matrixSize, decodeRefusal, decodeBytes};
-ghost use Rattle.decoder.specs.Decoded as decodes;
-ghost use Rattle.shiftsum.specs.Packed.{packed, Coded, DecodedInto};
-use codebook::Checked;
-use codebook::Params;
-use decoder::Decoded;
-use inputs::Done;
+ghost use Rattle.spec_operations.specs.Check.{checkAnswer};
+ghost use Rattle.spec_operations.specs.Coding.{codeRefusal, coded, readRefusal, messageOf};
+ghost use Rattle.spec_operations.specs.Decoding.{matrixSize, decodeRefusal, decodeBytes, values};
+ghost use Rattle.spec_operations.specs.Packed.{packed, Returns};
+ghost use Rattle.refusals.specs.Said as done;
+ghost use Rattle.book.specs.Params as checks;
+ghost use Rattle.decode.specs.Decoded as decodes;
+use book::Checked;
+use decode::Decoded;
+use refusals::Done;
+use sizes::FEW_MATRIX;
+use sizes::MATRIX;
 
 // The result of a check.
 fn pack_checked(r: Checked) -> u32
@@ -27,7 +27,7 @@ fn pack_checked(r: Checked) -> u32
 
 // The result of an operation that writes one buffer.
 pub fn pack_done(r: Done) -> u32
-    ensures { λ x. ⌜ x ≡ packed (wrote.said r) ⌝ }
+    ensures { λ x. ⌜ x ≡ packed (done.said r) ⌝ }
 {
     match r {
         Done::Made => 0,
@@ -43,7 +43,7 @@ fn pack_decoded(r: Decoded) -> u32
         Decoded::Answered(kind, rounds, changed) => {
             256 * (changed as u32)
                 + 65536 * (rounds as u32)
-                + 16777216 * (decoder::letter(kind) as u32)
+                + 16777216 * (decode::letter(kind) as u32)
         }
         Decoded::Refused(number) => number as u32,
     }
@@ -54,14 +54,14 @@ fn pack_decoded(r: Decoded) -> u32
 pub extern "C" fn shiftsum_check(book: &[u8]) -> u32
     ensures { λ r. ⌜ r ≡ packed (checkAnswer (now (book .entry))) ⌝ }
 {
-    pack_checked(codebook::check(book))
+    pack_checked(book::check(book))
 }
 
 // Code a message.
 #[no_mangle]
 pub extern "C" fn shiftsum_code(book: &[u8], message: &[u8], word: &mut [u8]) -> u32
-    ensures { λ r. ⌜ Coded (codeRefusal (now (book .entry)) (now (message .entry)) (length (now (word .entry))))
-        (coded (now (book .entry)) (now (message .entry))) (now (word .entry)) r (now (word .exit)) ⌝ }
+    ensures { λ r. ⌜ Returns (codeRefusal (now (book .entry)) (now (message .entry)) (length (now (word .entry))))
+        [] (coded (now (book .entry)) (now (message .entry))) (now (word .entry)) r (now (word .exit)) ⌝ }
 {
     pack_done(coder::code(book, message, word))
 }
@@ -69,61 +69,38 @@ pub extern "C" fn shiftsum_code(book: &[u8], message: &[u8], word: &mut [u8]) ->
 // Read a code word.
 #[no_mangle]
 pub extern "C" fn shiftsum_read(book: &[u8], word: &[u8], message: &mut [u8]) -> u32
-    ensures { λ r. ⌜ Coded (readRefusal (now (book .entry)) (now (word .entry)) (length (now (message .entry))))
-        (messageOf (now (book .entry)) (now (word .entry))) (now (message .entry)) r (now (message .exit)) ⌝ }
+    ensures { λ r. ⌜ Returns (readRefusal (now (book .entry)) (now (word .entry)) (length (now (message .entry))))
+        [] (messageOf (now (book .entry)) (now (word .entry))) (now (message .entry)) r (now (message .exit)) ⌝ }
 {
     pack_done(coder::read(book, word, message))
 }
 
-// Room for the largest matrix, 64 rows of 63. Only its length matters: every entry is written before it is read.
-fn matrix_room() -> [u16; 4032]
+// Room for the largest matrix. Only its length matters: every entry is written before it is read.
+fn matrix_room() -> [u16; MATRIX]
     ensures { λ r. ⌜ 4032 ≡ length r ⌝ }
 {
-    [0; 4032]
+    [0; MATRIX]
 }
 
-// The same where p is at most 3.
-fn few_room() -> [u16; 504]
+// Room for the largest matrix of few symbols.
+fn few_room() -> [u16; FEW_MATRIX]
     ensures { λ r. ⌜ 504 ≡ length r ⌝ }
 {
-    [0; 504]
-}
-
-// Decodes with a book that is accepted, and room for its table and the matrix.
-fn decode_in(
-    book: &[u8],
-    c: Params,
-    received: &[u8],
-    answer: &mut [u8],
-    t: &mut [u8],
-    room: &mut [u16],
-) -> u32
-    requires { ⌜ Describes (now book) c × (128 * 2 ^ c .p ≤ length (now t)) × (2 ^ c .p * c .n ≤ length (now room)) ⌝ }
-    ensures { λ r. ⌜ DecodedInto (decodeRefusal (now (book .entry)) (now (received .entry)) (length (now (answer .entry))) (matrixSize (now (book .entry))))
-        (decodeBytes (now (book .entry)) (now (received .entry))) (now (answer .entry)) r (now (answer .exit)) ⌝ }
-{
-    codebook::prepare(book, c, t);
-    let size = decoder::matrix_size(c.p, c.n);
-    pack_decoded(decoder::decode_checked(book, c, t, received, answer, &mut room[..size]))
+    [0; FEW_MATRIX]
 }
 
 // Decode a received word. The matrix is of the exact size, so refusal 10 tells of the answer alone. No room is larger than p asks: to clear it costs time.
 #[no_mangle]
 pub extern "C" fn shiftsum_decode(book: &[u8], received: &[u8], answer: &mut [u8]) -> u32
-    ensures { λ r. ⌜ DecodedInto (decodeRefusal (now (book .entry)) (now (received .entry)) (length (now (answer .entry))) (matrixSize (now (book .entry))))
-        (decodeBytes (now (book .entry)) (now (received .entry))) (now (answer .entry)) r (now (answer .exit)) ⌝ }
+    ensures { λ r. ⌜ Returns (decodeRefusal (now (book .entry)) (now (received .entry)) (length (now (answer .entry))) (matrixSize (now (book .entry))))
+        (values (decodeBytes (now (book .entry)) (now (received .entry)))) (decodeBytes (now (book .entry)) (now (received .entry)) .answer)
+        (now (answer .entry)) r (now (answer .exit)) ⌝ }
 {
-    let number = codebook::refusal(book);
-    if number != 0 {
-        return number as u32;
-    }
-    let c = codebook::describe(book);
-    if c.p < 4 {
-        let mut t = codebook::words::few_room();
+    let size = book::matrix_size(book);
+    if book::few_symbols(book) {
         let mut room = few_room();
-        return decode_in(book, c, received, answer, &mut t, &mut room);
+        return pack_decoded(decode::decode(book, received, answer, &mut room[..size]));
     }
-    let mut t = codebook::words::table_room();
     let mut room = matrix_room();
-    decode_in(book, c, received, answer, &mut t, &mut room)
+    pack_decoded(decode::decode(book, received, answer, &mut room[..size]))
 }

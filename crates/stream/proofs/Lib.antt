@@ -1,2 +1,7 @@
-pub mod Reading
-pub mod Program
+pub mod Filling
+pub mod Finishing
+pub mod Judging
+pub mod Openings
+pub mod Taking
+pub mod Rows
+pub mod Passing

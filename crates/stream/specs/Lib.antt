@@ -1,1 +1,5 @@
-pub mod Reads
+pub mod State
+pub mod Part
+pub mod Stepping
+pub mod Opening
+pub mod Serving

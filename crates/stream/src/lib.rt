@@ -1,153 +1,195 @@
-// The program: a codebook's length, the codebook and words come in by standard input, and their lines go out.
-// No contract can say which bytes a call of C's reads or writes. So every text is made by a function on slices whose contract has the definition, and what
-// stands here is reading, writing and the order of the calls. `program-output` (proofs/Program) is about that order, with a read as a part of the input: it makes `output`.
-use libc::STDIN_FILENO;
-use libc::STDOUT_FILENO;
+// The program as a machine that takes standard input in pieces: what each piece prints, and what the end of input adds.
+// `step` and `finish` ask for a state and rooms as `start` and `step` leave them: they are for a caller that passes on what it was given.
 ghost use mathlib.Core.Path.{_≡_};
-ghost use Prim.Native.Nat.{_+_, _*_, _≤_};
-ghost use lib.ListN.{length, take};
-ghost use Rattle.book.specs.Layout.{width};
-ghost use Rattle.book.specs.Conditions.{refusal};
-ghost use Rattle.report.specs.Printed.{written};
-ghost use Rattle.output.specs.Output.{textOf, mostWords};
-ghost use Rattle.stream.specs.Reads.{Reads};
-ghost use Rattle.lines.specs.Ready.{Ready};
-use codebook::Params;
+ghost use mathlib.Core.List.{List};
+ghost use Prim.Native.Nat.{ℕ, _≤_, _<_};
+ghost use lib.ListN.{length};
+ghost use Rattle.spec_program.specs.Machine as machine;
+ghost use Rattle.stream_text.specs.Printed.{Printed};
+ghost use Rattle.stream.specs.declared.Phase.the-variants.{Opening};
+ghost use Rattle.stream.specs.State.{stateOf, Sized, Sound};
+ghost use Rattle.stream.specs.Stepping.{Rooms, Steps};
+use book::Params;
+use sizes::BOOK;
+use sizes::WIDTH;
+use sizes::Word;
 
-// How many bytes were read, and whether the run goes on after them.
-pub struct Served {
-    pub read: usize,
-    pub more: bool,
+mod opening;
+mod parts;
+pub mod rooms;
+mod serving;
+
+// The bytes of the length field.
+pub const FIELD: usize = 2;
+// The most words that are read.
+pub const MOST: usize = 1000000;
+// The most bytes of input that matter.
+pub const INPUT: usize = FIELD + sizes::BOOK + MOST * sizes::WIDTH;
+
+// The codebook's length or the codebook is still coming; or words come; or the run has ended.
+pub enum Phase {
+    Opening,
+    Answering,
+    Ended,
 }
 
-// Answers the words that fill `input`, or those that are left: `output` begins with the text of what was read into `input`.
-// A short read is the end of input, and so is a failed one. A failed write ends the run too.
-fn answer_block(
-    book: &[u8],
-    c: Params,
-    t: &[u8],
-    answer: &mut [u8],
-    entries: &mut [u16],
-    input: &mut [u8],
-    output: &mut [u8],
-) -> Served
-    requires { ⌜ Ready (now book) c (now t) (now answer) (now entries) × (5 * length (now input) + 5 ≤ length (now output)) ⌝ }
-    ensures { λ r. ⌜ Reads (length (now (input .entry))) r ⌝ }
-    ensures { λ r. ⌜ now (output .exit) ≡ written (now (output .entry)) 0 (textOf (now (book .entry)) (take (r .read) (now (input .exit)))) ⌝ }
-{
-    let got = io::read_full(STDIN_FILENO, input);
-    let end = lines::put_block(book, c, t, &input[..got], answer, entries, output);
-    let sent = io::write_all(STDOUT_FILENO, &output[..end]);
-    Served {
-        read: got,
-        more: sent && got == input.len(),
-    }
+// Where a run stands between two pieces. Of each array as many bytes count as the number after it says. The parameters are those of an open book.
+pub struct State {
+    pub field: [u8; FIELD],
+    pub got: usize,
+    pub book: [u8; BOOK],
+    pub came: usize,
+    pub count: usize,
+    pub begun: Word,
+    pub held: usize,
+    pub phase: Phase,
+    pub params: Params,
 }
 
-// 2500 blocks of 400 words: the 1000000 words that are read at most. The buffers are lent, so that no block clears them anew.
-fn answer_words(
-    book: &[u8],
-    c: Params,
-    t: &[u8],
-    answer: &mut [u8],
-    entries: &mut [u16],
-    input: &mut [u8],
-    output: &mut [u8],
-) -> Served
-    requires { ⌜ Ready (now book) c (now t) (now answer) (now entries) × (length (now input) ≡ 400 * c .n) × (5 * length (now input) + 5 ≤ length (now output)) ⌝ }
-    ensures { λ r. ⌜ Reads (mostWords * c .n) r ⌝ }
-{
-    let mut read = 0;
-    let mut block: usize = 0;
-    while block < 2500 {
-        let served = answer_block(book, c, t, answer, entries, input, output);
-        read += served.read;
-        if !served.more {
-            return Served { read, more: false };
-        }
-        block += 1;
-    }
-    Served { read, more: true }
+// The next state, and where the text ends.
+pub struct Stepped {
+    pub state: State,
+    pub end: usize,
 }
 
-// The largest matrix, 64 rows of 63. Only the length of a buffer matters: it is written before it is read.
-fn matrix_buffer() -> [u16; 4032]
-    ensures { λ r. ⌜ 4032 ≡ length r ⌝ }
-{
-    [0; 4032]
-}
-
-// The longest word.
-fn word_buffer() -> [u8; 63]
-    ensures { λ r. ⌜ 63 ≡ length r ⌝ }
-{
-    [0; 63]
-}
-
-// 400 of the longest words.
-fn input_buffer() -> [u8; 25200]
-    ensures { λ r. ⌜ 25200 ≡ length r ⌝ }
-{
-    [0; 25200]
-}
-
-// Their lines.
-fn output_buffer() -> [u8; 126005]
-    ensures { λ r. ⌜ 126005 ≡ length r ⌝ }
-{
-    [0; 126005]
-}
-
-// The longest codebook.
-fn book_buffer() -> [u8; 2118]
+// Room for the longest codebook.
+fn book_room() -> [u8; BOOK]
     ensures { λ r. ⌜ 2118 ≡ length r ⌝ }
 {
-    [0; 2118]
+    [0; BOOK]
 }
 
-// Answers the words that follow an accepted codebook, which is described and prepared once.
-fn serve(book: &[u8])
-    requires { ⌜ refusal width (now book) ≡ 0 ⌝ }
+// No byte came.
+pub fn start() -> State
+    ensures { λ r. ⌜ (stateOf r ≡ machine.start) × ((t terms : List ℕ) → length t ≡ 8192 → length terms ≡ 2240 → Sound r t terms) ⌝ }
 {
-    let c = codebook::describe(book);
-    let mut t = codebook::words::table_room();
-    codebook::prepare(book, c, &mut t);
-    let n = c.n;
-    let entries = decoder::matrix_size(c.p, n);
-    let size = 400 * n;
-    let mut word = word_buffer();
-    let mut matrix = matrix_buffer();
-    let mut input = input_buffer();
-    let mut output = output_buffer();
-    answer_words(
+    let field = [0; FIELD];
+    let book = book_room();
+    let begun = [0; WIDTH];
+    let params = Params {
+        p: 0,
+        n: 0,
+        degree: 0,
+        rounds: 0,
+        places: 0,
+        duals: 0,
+    };
+    State {
+        field,
+        got: 0,
         book,
-        c,
-        &t,
-        &mut word[..n],
-        &mut matrix[..entries],
-        &mut input[..size],
-        &mut output,
-    );
-}
-
-// Answers what follows the length field, of which `got` bytes came and which says `size`; `book` is what came of the codebook.
-fn answer(got: usize, size: usize, book: &[u8]) {
-    let mut text = [0u8; 5];
-    let end = opening::put_text(got, size, book, &mut text);
-    if end != 0 {
-        io::write_all(STDOUT_FILENO, &text[..end]);
-        return;
+        came: 0,
+        count: 0,
+        begun,
+        held: 0,
+        phase: Phase::Opening,
+        params,
     }
-    serve(book);
 }
 
-// Answers standard input: document 01, "Program".
-pub fn run() {
-    let mut field = [0u8; 2];
-    let got = io::read_full(STDIN_FILENO, &mut field);
-    let size = opening::book_length(&field);
-    let room = opening::book_room(got, size);
-    let mut book = book_buffer();
-    let came = io::read_full(STDIN_FILENO, &mut book[..room]);
-    answer(got, size, &book[..came]);
+// Takes a piece: what it prints stands at the start of `out`. The state is one that `start` or `step` made, and t and terms are as `step` left them.
+pub fn step(
+    s: State,
+    piece: &[u8],
+    t: &mut [u8],
+    terms: &mut [u16],
+    answer: &mut [u8],
+    entries: &mut [u16],
+    out: &mut [u8],
+) -> Stepped
+    requires { ⌜ Sound s (now t) (now terms) × Rooms (now piece) (now answer) (now entries) (now out) ⌝ }
+    ensures { λ r. ⌜ Steps s (now (piece .entry)) (now (out .entry)) 0 (r .state) (r .end) (now (out .exit))
+        × Sound (r .state) (now (t .exit)) (now (terms .exit)) ⌝ }
+{
+    let phase = s.phase;
+    match phase {
+        Phase::Opening => open_and_serve(s, piece, t, terms, answer, entries, out),
+        Phase::Answering => serving::serve(s, piece, t, terms, answer, entries, out, 0),
+        Phase::Ended => Stepped { state: s, end: 0 },
+    }
+}
+
+// The same while the opening is coming: words may follow it in the piece.
+fn open_and_serve(
+    s: State,
+    piece: &[u8],
+    t: &mut [u8],
+    terms: &mut [u16],
+    answer: &mut [u8],
+    entries: &mut [u16],
+    out: &mut [u8],
+) -> Stepped
+    requires { ⌜ Sound s (now t) (now terms) × (s .phase ≡ Opening) × Rooms (now piece) (now answer) (now entries) (now out) ⌝ }
+    ensures { λ r. ⌜ Steps s (now (piece .entry)) (now (out .entry)) 0 (r .state) (r .end) (now (out .exit))
+        × Sound (r .state) (now (t .exit)) (now (terms .exit)) ⌝ }
+{
+    let taken = opening::open_with(s, piece, t, terms, out);
+    let state = taken.state;
+    let at = taken.at;
+    let phase = state.phase;
+    match phase {
+        Phase::Opening => Stepped {
+            state,
+            end: taken.end,
+        },
+        Phase::Answering => serving::serve(
+            state,
+            &piece[at..],
+            t,
+            terms,
+            answer,
+            entries,
+            out,
+            taken.end,
+        ),
+        Phase::Ended => Stepped {
+            state,
+            end: taken.end,
+        },
+    }
+}
+
+// Whether the run has ended, whatever comes.
+fn is_over(s: State) -> bool {
+    let phase = s.phase;
+    match phase {
+        Phase::Opening => false,
+        Phase::Answering => false,
+        Phase::Ended => true,
+    }
+}
+
+// How many turns are left after one: none where the write failed, the read was short or the run has ended.
+pub fn turns_left(left: usize, sent: bool, full: bool, s: State) -> usize
+    requires { ⌜ 0 < left ⌝ }
+    ensures { λ r. ⌜ r < left ⌝ }
+{
+    if !sent {
+        return 0;
+    }
+    if !full {
+        return 0;
+    }
+    if is_over(s) {
+        return 0;
+    }
+    left - 1
+}
+
+// What the end of input prints.
+pub fn finish(s: State, out: &mut [u8]) -> usize
+    requires { ⌜ Sized s × (5 ≤ length (now out)) ⌝ }
+    ensures { λ r. ⌜ Printed (now (out .entry)) 0 (machine.finishText (stateOf s)) (now (out .exit)) r × (r ≤ length (now (out .exit))) ⌝ }
+{
+    let phase = s.phase;
+    match phase {
+        Phase::Opening => stream_text::put_refusal(out, 0, 1),
+        Phase::Answering => {
+            if s.held == 0 {
+                return 0;
+            }
+            stream_text::put_refusal(out, 0, 9)
+        }
+        Phase::Ended => 0,
+    }
 }

@@ -46,7 +46,7 @@ impl Book {
     }
 
     /// How many products of symbols so many rounds with so many dual words
-    /// take where a matrix is made as document 01 says it: what the time of
+    /// take where a matrix is made as the scope says it: what the time of
     /// a decode goes by.
     pub fn products(&self, l: usize, rounds: u8) -> usize {
         let weight = self.parts.weight();

@@ -1,4 +1,4 @@
-//! Decode against document 01's words followed by hand, and against the
+//! Decode against the scope's words followed by hand, and against the
 //! second implementation.
 
 use boundary::compare::{hex, Trial};
@@ -263,7 +263,7 @@ fn decodes(book: &[u8], received: &[u8], expected: (char, u8, u8), answer: &[u8]
     );
 }
 
-/// The same with words as document 01 writes them.
+/// The same with words as the scope writes them.
 fn followed(book: Vec<u8>, received: &str, expected: (char, u8, u8), answer: &str) {
     decodes(&book, &symbols(received), expected, &symbols(answer));
 }

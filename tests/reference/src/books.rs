@@ -1,6 +1,6 @@
-//! Books A, B and C of document 01, and how a book is written down.
+//! Books A, B and C of the scope, and how a book is written down.
 
-/// Symbols as document 01 prints them, one decimal digit each; other
+/// Symbols as the scope prints them, one decimal digit each; other
 /// characters are left out.
 pub fn symbols(digits: &str) -> Vec<u8> {
     digits

@@ -1,4 +1,4 @@
-//! The codebook and conditions 1 to 8 on it (document 01, "Codebook" and
+//! The codebook and conditions 1 to 8 on it (the scope, "Codebook" and
 //! "What the coder declines, in order").
 
 use crate::field::Field;

@@ -1,4 +1,4 @@
-//! Code and Read (document 01, "Operations").
+//! Code and Read (the scope, "Operations").
 
 use crate::codebook::{check, Codebook};
 use crate::refuse;

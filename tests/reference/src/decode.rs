@@ -1,4 +1,4 @@
-//! Decode (document 01, "Operations").
+//! Decode (the scope, "Operations").
 
 use crate::codebook::{check, Codebook};
 use crate::refuse;

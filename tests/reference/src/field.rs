@@ -1,4 +1,4 @@
-//! Symbols: the field GF(2^p) (document 01, "Symbols").
+//! Symbols: the field GF(2^p) (the scope, "Symbols").
 
 use crate::refuse;
 
@@ -24,7 +24,7 @@ impl Field {
         1 << self.p
     }
 
-    /// "The polynomial of p, written as a number". For p = 1 document 01
+    /// "The polynomial of p, written as a number". For p = 1 the scope
     /// names none: 2 is x, and modulo x "it is the product of 0 and 1".
     pub fn polynomial(self) -> u16 {
         match self.p {

@@ -1,7 +1,7 @@
-//! The shift-sum coder in the plainest reading of document 01.
+//! The shift-sum coder in the plainest reading of the scope.
 //!
 //! It is there to be compared with: every function follows a sentence of
-//! document 01, and none is made faster than the sentence is.
+//! the scope, and none is made faster than the sentence is.
 
 pub mod books;
 pub mod codebook;

@@ -1,4 +1,4 @@
-//! Standard input to standard output (document 01, "Program").
+//! Standard input to standard output (the scope, "Program").
 
 use std::io;
 

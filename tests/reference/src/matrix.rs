@@ -1,4 +1,4 @@
-//! Matrix (document 01, "Operations").
+//! Matrix (the scope, "Operations").
 
 use crate::codebook::{check, Codebook};
 use crate::refuse;

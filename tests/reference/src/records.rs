@@ -1,4 +1,4 @@
-//! The book's bytes cut into records (document 01, "Codebook").
+//! The book's bytes cut into records (the scope, "Codebook").
 
 use crate::field::Field;
 

@@ -1,4 +1,4 @@
-//! Program: standard input to standard output (document 01, "Operations").
+//! Program: standard input to standard output (the scope, "Operations").
 
 use std::io::{self, BufRead, BufReader, BufWriter, Read, Write};
 
@@ -17,7 +17,7 @@ pub fn run(input: &mut dyn Read, output: &mut dyn Write) {
         ended: false,
     };
     let mut output = BufWriter::with_capacity(1 << 16, output);
-    // Document 01 is silent on a failed write: it ends the run.
+    // The scope is silent on a failed write: it ends the run.
     let _ = lines(&mut input, &mut output).and_then(|()| output.flush());
 }
 

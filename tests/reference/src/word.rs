@@ -1,4 +1,4 @@
-//! Words: n symbols, place j being the coefficient of x^j (document 01,
+//! Words: n symbols, place j being the coefficient of x^j (the scope,
 //! "Words"). The length of the slice is n.
 
 use crate::field::Field;

@@ -1,4 +1,4 @@
-//! Document 01, "Words followed by hand": cases 1 to 14.
+//! The scope, "Words followed by hand": cases 1 to 14.
 
 use reference::books::{self, symbols};
 use reference::coder;

@@ -1,4 +1,4 @@
-//! What follows from document 01 for every codebook, tried on generated ones
+//! What follows from the scope for every codebook, tried on generated ones
 //! of every s and p.
 
 use std::collections::BTreeMap;

@@ -1,4 +1,4 @@
-//! Document 01, "Program", byte for byte.
+//! The scope, "Program", byte for byte.
 
 use std::io::{self, Read, Write};
 use std::process::{Command, Stdio};

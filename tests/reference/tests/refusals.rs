@@ -1,4 +1,4 @@
-//! Document 01, "What the coder declines, in order": every row, the order,
+//! The scope, "What the coder declines, in order": every row, the order,
 //! and that a refused call writes nothing.
 
 use reference::books::{self, symbols};

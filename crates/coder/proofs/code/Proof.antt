@@ -1,27 +1,66 @@
 -- `coder::code` meets its contract.
 -- Assumes nothing.
-use mathlib.Core.Path.{sym, _∙_}
+use mathlib.Core.Path.{refl}
+use native.Mathlib.Nat.{le-trans, le-of-eq}
+use native.Mathlib.Omega.{arith}
+use Rattle.spec_operations.proofs.Wrote.{wrote-refused}
+use Rattle.spec_operations.proofs.Coding.{code-refused, code-goes-on}
+use Rattle.book.proofs.Answering.{opens-refused}
+use Rattle.coder.proofs.Opening.{room-high, opened}
 use borrow.Author.Needs.{needs}
-use Rattle.inputs.proofs.Wrote.{wrote-refused, wrote-made}
 use Rattle.coder.proofs.code.Statement.{statement}
 use Rattle.coder.proofs.code.Tie as tie
 
-code-refusal-requires : tie.Need-code-refusal-requires
-code-refusal-requires c κs = search needs
+table-room-requires : tie.Need-table-room-requires
+table-room-requires c κs = search needs
+
+slice-aggregate-open : tie.Need-slice-aggregate-open
+slice-aggregate-open c = search needs
+
+open-requires : tie.Need-open-requires
+open-requires c κs = le-trans (room-high _) (le-of-eq (c .before .table-room .ensures))
+
+enum-known-opened : tie.Need-enum-known-opened
+enum-known-opened c = search needs
+
+enum-known-opened-2 : tie.Need-enum-known-opened-2
+enum-known-opened-2 c = search needs
+
+slice-aggregate-code-message : tie.Need-slice-aggregate-code-message
+slice-aggregate-code-message c = search needs
+
+code-message-requires : tie.Need-code-message-requires
+code-message-requires c κs =
+    let o = c .before .before .before in
+    let s = o .before .before .before in
+    let start = s .before .before .before .before .before .before in
+    record { bytes = start .args .book .now; open-book = opened _ _ _ (s .«open» .ensures .0) (o .opened2 .given .1) }
 
 returns : tie.Need-returns
-returns c = wrote-refused (c .before .code-refusal .ensures) (c .if1 .taken)
-
-write-word-requires : tie.Need-write-word-requires
-write-word-requires c κs = sym (c .before .before .code-refusal .ensures) ∙ c .before .if1 .left
+returns c =
+    let h = opens-refused _ _ _ (c .before .before .before .before .«open» .ensures .0) (c .before .opened .given .1) in
+    wrote-refused (code-refused _ _ _ (h .0) (λ z. omega (arith, h .1))) (λ z. omega (arith, h .1))
 
 same-length : tie.Need-same-length
 same-length c = search needs
 
 returns-2 : tie.Need-returns-2
 returns-2 c =
-    let s = c .before .before .before .before in
-    wrote-made (sym (s .before .code-refusal .ensures) ∙ s .if1 .left) (c .before .before .write-word .ensures)
+    let o = c .before .before .before .before .before .before in
+    let b = opened _ _ _ (o .before .before .before .«open» .ensures .0) (o .opened2 .given .1) in
+    code-goes-on _ _ _ refl (b .describes .accepted) (c .before .before .code-message .ensures _ b)
 
 pub code-spec : {M : Type 1} → statement M
-code-spec = tie.close (tie.spec code-refusal-requires returns write-word-requires same-length returns-2)
+code-spec =
+    tie.close
+    (tie.spec
+    table-room-requires
+    slice-aggregate-open
+    open-requires
+    enum-known-opened
+    enum-known-opened-2
+    slice-aggregate-code-message
+    code-message-requires
+    returns
+    same-length
+    returns-2)

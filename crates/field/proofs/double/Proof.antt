@@ -2,7 +2,7 @@
 use mathlib.Core.Path.{sym, subst}
 use Prim.Native.Nat.{ℕ, _^_, _<_}
 use borrow.Author.Needs.{needs}
-use Rattle.field.proofs.Gf.{timesX-below}
+use Rattle.spec_field.proofs.Gf.{timesX-below}
 use Rattle.field.proofs.double.Statement.{statement}
 use Rattle.field.proofs.double.Tie as tie
 

@@ -4,9 +4,9 @@ use Prim.Native.Nat.{ℕ, suc, _+_, _-_, _^_, _<_, _≤_}
 use native.Mathlib.Omega.{arith}
 use borrow.Author.Needs.{needs}
 use lib.Pow.{pow-mono}
-use Rattle.field.specs.Symbols.{product, inverse}
-use Rattle.field.proofs.Power.{squares}
-use Rattle.field.proofs.Gf.{inverse-power}
+use Rattle.spec_field.specs.Symbols.{product, inverse}
+use Rattle.spec_field.proofs.Power.{squares}
+use Rattle.spec_field.proofs.Gf.{inverse-power}
 use Rattle.field.proofs.inv.Statement.{statement}
 use Rattle.field.proofs.inv.Tie as tie
 

@@ -4,8 +4,8 @@ use mathlib.Core.Path.{ap, _∙_, sym}
 use mathlib.Core.List.{[], _∷_}
 use Prim.Native.Nat.{ℕ}
 use borrow.Author.Needs.{needs}
-use Rattle.field.specs.Answer.{done}
-use Rattle.field.proofs.Refusals.{accepted-inverse, answers-refused, answers-done}
+use Rattle.spec_field.specs.Answer.{done}
+use Rattle.spec_field.proofs.Refusals.{accepted-inverse, answers-refused, answers-done}
 use Rattle.field.proofs.inverse.Statement.{statement}
 use Rattle.field.proofs.inverse.Tie as tie
 

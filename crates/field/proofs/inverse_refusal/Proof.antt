@@ -3,8 +3,8 @@
 use mathlib.Core.Path.{_∙_, sym}
 use borrow.Author.Needs.{needs}
 use borrow.Author.Tests.{eq-eqb, ne-eqb}
-use Rattle.field.specs.Operations.{inverseRefusal}
-use Rattle.field.proofs.Refusals.{found-first}
+use Rattle.spec_field.specs.Operations.{inverseRefusal}
+use Rattle.spec_field.proofs.Refusals.{found-first}
 use Rattle.field.proofs.inverse_refusal.Statement.{statement}
 use Rattle.field.proofs.inverse_refusal.Tie as tie
 

@@ -4,9 +4,9 @@ use Prim.Native.Nat.{ℕ, suc, _+_, _-_, _/_, _^_, _<_, _≤_}
 use native.Mathlib.Omega.{arith}
 use borrow.Author.Needs.{needs}
 use lib.Bits.{bitXor, xor-zero-r}
-use Rattle.field.specs.Symbols.{shiftAdd, product}
-use Rattle.field.proofs.ShiftAdd.{shiftAdd-step, product-in-steps}
-use Rattle.field.proofs.Gf.{timesX-below, product-below}
+use Rattle.spec_field.specs.Symbols.{shiftAdd, product}
+use Rattle.spec_field.proofs.ShiftAdd.{shiftAdd-step, product-in-steps}
+use Rattle.spec_field.proofs.Gf.{timesX-below, product-below}
 use Rattle.field.proofs.mul.Statement.{statement}
 use Rattle.field.proofs.mul.Tie as tie
 

@@ -4,9 +4,9 @@ use mathlib.Core.Path.{_≡_}
 use Prim.Native.Nat.{ℕ, _*_, _/_, _%_, _^_, _≤_, suc-le-suc}
 use borrow.Author.Needs.{needs}
 use lib.Dec.{T, eqb, eqb→eq}
-use Rattle.field.specs.Symbols.{polynomial}
-use Rattle.range.specs.Fold.{fold, all}
-use Rattle.range.proofs.Table.{all-at}
+use Rattle.spec_field.specs.Symbols.{polynomial}
+use Rattle.spec_range.specs.Fold.{fold, all}
+use Rattle.spec_range.proofs.Table.{all-at}
 use Rattle.field.proofs.polynomial.Statement.{statement}
 use Rattle.field.proofs.polynomial.Tie as tie
 

@@ -1,7 +1,7 @@
 -- `field::sum` meets its contract.
 -- Assumes nothing.
 use borrow.Author.Needs.{needs}
-use Rattle.field.proofs.Refusals.{answers-refused, answers-done}
+use Rattle.spec_field.proofs.Refusals.{answers-refused, answers-done}
 use Rattle.field.proofs.sum.Statement.{statement}
 use Rattle.field.proofs.sum.Tie as tie
 

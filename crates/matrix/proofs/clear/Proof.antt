@@ -4,7 +4,7 @@ use Prim.Native.Nat.{_-_, _≤_}
 use mathlib.Core.Path.{_≡_, refl}
 use native.Mathlib.Omega.{arith}
 use lib.ListN.{length}
-use Rattle.range.proofs.Loop.{Over, over-none, over-more, over-table}
+use Rattle.spec_range.proofs.Loop.{Over, over-none, over-more, over-table}
 use borrow.Author.Needs.{needs}
 use Rattle.matrix.proofs.clear.Statement.{statement}
 use Rattle.matrix.proofs.clear.Tie as tie

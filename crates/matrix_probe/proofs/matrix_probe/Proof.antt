@@ -2,7 +2,7 @@
 -- Assumes nothing.
 use mathlib.Core.Path.{ap, _∙_}
 use borrow.Author.Needs.{needs}
-use Rattle.shiftsum.specs.Packed.{packed}
+use Rattle.spec_operations.specs.Packed.{packed}
 use Rattle.matrix_probe.proofs.matrix_probe.Statement.{statement}
 use Rattle.matrix_probe.proofs.matrix_probe.Tie as tie
 

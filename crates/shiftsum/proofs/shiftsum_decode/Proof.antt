@@ -1,99 +1,98 @@
--- `shiftsum::shiftsum_decode` meets its contract: either room holds the table and the matrix.
+-- `shiftsum::shiftsum_decode` meets its contract.
 -- Assumes nothing.
-use mathlib.Core.Path.{sym, _∙_}
+use mathlib.Core.Path.{_≡_, sym, _∙_, subst}
+use Prim.Native.Nat.{ℕ, _≤_}
 use native.Mathlib.Omega.{arith}
-use Rattle.tables.proofs.Tables.{few-fits, table-fits}
-use Rattle.codebook.proofs.Described.{params-sizes, params-room}
-use Rattle.shiftsum.proofs.Room.{into-refused, few-entries}
+use lib.ListN.{length}
+use lib.Seq.{length-take-le}
+use Rattle.book.specs.Opened.{MatrixSize}
+use Rattle.shiftsum.proofs.Room.{decoded-into}
 use borrow.Author.Needs.{needs}
 use Rattle.shiftsum.proofs.shiftsum_decode.Statement.{statement}
 use Rattle.shiftsum.proofs.shiftsum_decode.Tie as tie
 
-refusal-requires : tie.Need-refusal-requires
-refusal-requires c κs = search needs
+matrix-size-requires : tie.Need-matrix-size-requires
+matrix-size-requires c κs = search needs
 
-cast-result : tie.Need-cast-result
-cast-result c = search needs
-
-returns : tie.Need-returns
-returns c = into-refused _ _ _ _ (c .before .refusal .ensures) (c .if1 .taken)
-
-describe-requires : tie.Need-describe-requires
-describe-requires c κs = sym (c .before .refusal .ensures) ∙ c .if1 .left
+few-symbols-requires : tie.Need-few-symbols-requires
+few-symbols-requires c κs = search needs
 
 few-room-requires : tie.Need-few-room-requires
 few-room-requires c κs = search needs
 
-few-room-requires-2 : tie.Need-few-room-requires-2
-few-room-requires-2 c κs = search needs
+-- the matrix fits its room
+few-fits : (c : tie.After-few-room) → c .before .before .before .matrix-size .result ≤ length (c .few-room .result)
+few-fits c =
+    let few = sym (c .before .before .few-symbols .ensures) ∙ c .before .if1 .taken in
+    omega (arith, c .before .before .before .matrix-size .ensures .few few, c .few-room .ensures)
 
-slice-aggregate-decode-in : tie.Need-slice-aggregate-decode-in
-slice-aggregate-decode-in c = search needs
+fits : (c : tie.After-matrix-room) → c .before .before .before .matrix-size .result ≤ length (c .matrix-room .result)
+fits c = omega (arith, c .before .before .before .matrix-size .ensures .most, c .matrix-room .ensures)
 
-slice-aggregate-decode-in-2 : tie.Need-slice-aggregate-decode-in-2
-slice-aggregate-decode-in-2 c = search needs
+array-borrow-prefix-room : tie.Need-array-borrow-prefix-room
+array-borrow-prefix-room c = few-fits (c .before)
 
-decode-in-requires : tie.Need-decode-in-requires
-decode-in-requires c κs =
-    let found = c .before .before .before .before .before .before .before in
-    let d = found .describe .ensures in
-    let n = params-sizes _ _ d .n-high in (
-      d,
-      omega (arith, few-fits (found .describe .result .p) (omega (arith, c .before .before .before .before .before .if2 .taken)), c .before .before .before .before .few-room .ensures),
-      omega (arith, few-entries (found .describe .result .p) (omega (arith, c .before .before .before .before .before .if2 .taken)) n, c .before .before .before .few-room2 .ensures),
-    )
+slice-aggregate-decode : tie.Need-slice-aggregate-decode
+slice-aggregate-decode c = sym (length-take-le _ _ (few-fits (c .before .before)))
+
+decode-requires : tie.Need-decode-requires
+decode-requires c κs = search needs
+
+pack-decoded-requires : tie.Need-pack-decoded-requires
+pack-decoded-requires c κs = search needs
 
 same-length : tie.Need-same-length
 same-length c = search needs
 
-returns-2 : tie.Need-returns-2
-returns-2 c = c .before .before .before .before .decode-in .ensures
-
-table-room-requires : tie.Need-table-room-requires
-table-room-requires c κs = search needs
+returns : tie.Need-returns
+returns c =
+    let called = c .before .before .before .before in
+    let made = called .before .before .before in
+    let exact = length-take-le _ _ (few-fits made) in
+    decoded-into _ _ _ (subst (MatrixSize _) (sym exact) (made .before .before .before .matrix-size .ensures)) (called .decode .ensures) (c .pack-decoded .ensures)
 
 matrix-room-requires : tie.Need-matrix-room-requires
 matrix-room-requires c κs = search needs
 
-slice-aggregate-decode-in-3 : tie.Need-slice-aggregate-decode-in-3
-slice-aggregate-decode-in-3 c = search needs
+array-borrow-prefix-room-2 : tie.Need-array-borrow-prefix-room-2
+array-borrow-prefix-room-2 c = fits (c .before)
 
-slice-aggregate-decode-in-4 : tie.Need-slice-aggregate-decode-in-4
-slice-aggregate-decode-in-4 c = search needs
+slice-aggregate-decode-2 : tie.Need-slice-aggregate-decode-2
+slice-aggregate-decode-2 c = sym (length-take-le _ _ (fits (c .before .before)))
 
-decode-in-requires-2 : tie.Need-decode-in-requires-2
-decode-in-requires-2 c κs =
-    let d = c .before .before .before .before .before .before .before .describe .ensures in (
-      d,
-      omega (arith, table-fits _ (params-sizes _ _ d .p-high), c .before .before .before .before .table-room .ensures),
-      omega (arith, params-room _ _ d, c .before .before .before .matrix-room .ensures),
-    )
+decode-requires-2 : tie.Need-decode-requires-2
+decode-requires-2 c κs = search needs
+
+pack-decoded-requires-2 : tie.Need-pack-decoded-requires-2
+pack-decoded-requires-2 c κs = search needs
 
 same-length-2 : tie.Need-same-length-2
 same-length-2 c = search needs
 
-returns-3 : tie.Need-returns-3
-returns-3 c = c .before .before .before .before .decode-in2 .ensures
+returns-2 : tie.Need-returns-2
+returns-2 c =
+    let called = c .before .before .before .before in
+    let made = called .before .before .before in
+    let exact = length-take-le _ _ (fits made) in
+    decoded-into _ _ _ (subst (MatrixSize _) (sym exact) (made .before .before .before .matrix-size .ensures)) (called .decode2 .ensures) (c .pack-decoded2 .ensures)
 
 pub shiftsum-decode-spec : {M : Type 1} → statement M
 shiftsum-decode-spec =
     tie.close
     (tie.spec
-    refusal-requires
-    cast-result
-    returns
-    describe-requires
+    matrix-size-requires
+    few-symbols-requires
     few-room-requires
-    few-room-requires-2
-    slice-aggregate-decode-in
-    slice-aggregate-decode-in-2
-    decode-in-requires
+    array-borrow-prefix-room
+    slice-aggregate-decode
+    decode-requires
+    pack-decoded-requires
     same-length
-    returns-2
-    table-room-requires
+    returns
     matrix-room-requires
-    slice-aggregate-decode-in-3
-    slice-aggregate-decode-in-4
-    decode-in-requires-2
+    array-borrow-prefix-room-2
+    slice-aggregate-decode-2
+    decode-requires-2
+    pack-decoded-requires-2
     same-length-2
-    returns-3)
+    returns-2)

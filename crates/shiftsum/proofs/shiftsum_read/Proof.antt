@@ -1,7 +1,7 @@
 -- `shiftsum::shiftsum_read` meets its contract.
 -- Assumes nothing.
 use mathlib.Core.Path.{ap, _∙_}
-use Rattle.shiftsum.specs.Packed.{packed}
+use Rattle.spec_operations.specs.Packed.{packed}
 use borrow.Author.Needs.{needs}
 use Rattle.shiftsum.proofs.shiftsum_read.Statement.{statement}
 use Rattle.shiftsum.proofs.shiftsum_read.Tie as tie

@@ -1,4 +1,4 @@
--- `symmetry::decode_twice` meets its contract: demand 3, by one application of the theorem to what the two calls ensure.
+-- `symmetry::decode_twice` meets its contract: what each call ensures, and demand 3 by one application of the theorem to both.
 -- Assumes nothing.
 use borrow.Author.Needs.{needs}
 use lib.ListN.{length}
@@ -26,8 +26,16 @@ same-length-4 c = search needs
 
 returns : tie.Need-returns
 returns c =
-    let a = c .before .before .before .before .before .before .before .before .before .before .before .before .before .before .before .before .before .before .before .before .before .args in
-    related _ (length (a .answer .now)) (length (a .entries .now)) (length (a .answer2 .now)) (length (a .entries2 .now)) (c .before .before .before .before .before .before .before .before .before .before .before .decode .ensures) (c .before .before .before .before .decode2 .ensures)
+    let second = c .before .before .before .before in
+    let first = second .before .before .before .before .before .before .before in
+    let a = first .before .before .before .before .before .before .before .before .before .before .args in (
+      first .decode .ensures,
+      (
+        second .decode2 .ensures,
+        related _ (length (a .answer .now)) (length (a .entries .now)) (length (a .answer2 .now)) (length (a .entries2 .now)) (first .decode .ensures)
+            (second .decode2 .ensures),
+      ),
+    )
 
 pub decode-twice-spec : {M : Type 1} → statement M
 decode-twice-spec =

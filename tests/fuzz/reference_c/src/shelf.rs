@@ -4,7 +4,7 @@ use reference::books;
 use reference::codebook::check;
 use reference::generate::{self, Random, SHAPES};
 
-/// Document 01's codebooks, and those with another D that its cases use.
+/// The scope's codebooks, and those with another D that its cases use.
 const BY_HAND: usize = 6;
 
 /// How many of each s and p are drawn.

@@ -1,7 +1,7 @@
 -- `coder::trips::code_then_read` meets its contract.
 -- Assumes nothing.
+use Rattle.spec_operations.proofs.Trips.{code-then-read}
 use borrow.Author.Needs.{needs}
-use Rattle.coder.proofs.Returning.{code-then-read}
 use Rattle.coder.proofs.trips.code_then_read.Statement.{statement}
 use Rattle.coder.proofs.trips.code_then_read.Tie as tie
 
@@ -18,7 +18,11 @@ same-length-2 : tie.Need-same-length-2
 same-length-2 c = search needs
 
 returns : tie.Need-returns
-returns c = code-then-read _ _ _ (c .before .before .before .before .before .before .before .code .ensures) (c .before .before .read .ensures)
+returns c =
+    let first = c .before .before .before .before .before .before .before .code .ensures in
+    let second = c .before .before .read .ensures in
+    (first, (second, code-then-read _ _ _ _ first second))
 
 pub code-then-read-spec : {M : Type 1} → statement M
-code-then-read-spec = tie.close (tie.spec code-requires read-requires same-length same-length-2 returns)
+code-then-read-spec =
+    tie.close (tie.spec code-requires read-requires same-length same-length-2 returns)

@@ -1,0 +1,80 @@
+-- What readable bytes hold: the words that the code loads are those of the book, and its tests are the book's.
+-- Assumes nothing.
+use mathlib.Core.Path.{_≡_, ap, ap₂, _∙_}
+use mathlib.Core.Bool.{true, _&&_}
+use mathlib.Core.List.{List}
+use Prim.Native.Nat.{ℕ, _+_, _%_, _<_}
+use native.Mathlib.Nat.{mod-eq-of-lt}
+use native.Mathlib.Omega.{arith}
+use lib.Dec.{T, eqb}
+use lib.ListN.{length}
+use Rattle.spec_range.specs.Fold.{all}
+use Rattle.spec_range.specs.Table.{padded}
+use Rattle.spec_range.proofs.Tests.{and-left, and-right}
+use Rattle.spec_range.proofs.Fold.{fold-cong}
+use Rattle.spec_range.proofs.Table.{all-at}
+use Rattle.spec_range.proofs.Loop.{padded-whole}
+use Rattle.word_array.specs.Stored.{place, Sizes, Stored}
+use Rattle.word_array.proofs.Filled.{read-padded}
+use Rattle.spec_book.specs.Layout.{width, generatorAt, dualAt, dualCount, byte, wordLength, fieldOf, degreeOf, bookOf}
+use Rattle.spec_book.specs.Conditions.{bodyOk, symbolsOk, generatorOk, alike}
+use Rattle.spec_book.proofs.Accepting.{sizes, body-symbol, body-zero}
+use Rattle.book_records.specs.Records.{Readable}
+use Rattle.book.specs.Params.{Sized, Read, generatorTest}
+
+-- ---- readable bytes
+
+module _ {bytes : List ℕ} (r : Readable bytes) where
+  pub generator-body : T (bodyOk width bytes generatorAt)
+  unfolding symbolsOk
+  generator-body = and-left (bodyOk width bytes generatorAt) _ (r .symbols)
+
+  pub dual-body : (l : ℕ) → l < dualCount width (length bytes) → T (bodyOk width bytes (dualAt width l))
+  unfolding symbolsOk
+  dual-body = all-at (dualCount width (length bytes)) _ (and-right (bodyOk width bytes generatorAt) _ (r .symbols))
+
+  pub sized : {n : ℕ} → n ≡ wordLength bytes → Sized bytes n
+  sized e =
+      let s = sizes bytes (r .sizes) in
+      record { whole = r .whole; n-is = e; n-low = omega (arith, s .n-low); n-high = omega (arith, s .n-high) }
+
+-- ---- dual words, where no more is known than the length of the bytes
+
+module _ {bytes : List ℕ} {n : ℕ} (h : Sized bytes n) where
+  -- two compared where they lie
+  pub alike-test : (l m : ℕ) {a b : ℕ} → a ≡ dualAt width l + 1 → b ≡ dualAt width m + 1
+      → all n (λ j. eqb (byte bytes (a + j)) (byte bytes (b + j))) ≡ alike (fieldOf bytes) (bookOf width bytes) l m
+  unfolding alike bookOf
+  alike-test l m e f =
+      rw (h .n-is) (fold-cong _&&_ true (wordLength bytes) (λ j k.
+      let s : j % wordLength bytes ≡ j = mod-eq-of-lt k in
+      ap₂ eqb (ap (byte bytes) (omega arith)) (ap (byte bytes) (omega arith))))
+
+-- ---- the generator and the tests of readable bytes
+
+module _ {bytes : List ℕ} {p n : ℕ} (h : Read bytes p n) where
+  pub read-sizes : Sizes p n
+  read-sizes =
+      let s = sizes bytes (h .readable .sizes) in
+      record { p-low = omega arith; p-high = omega arith; n-low = omega arith; n-high = omega arith }
+
+  module _ {g : List ℕ} (e : g ≡ padded 63 n (λ j. place bytes (4 + j))) where
+    pub generator-stored : Stored p n g
+    generator-stored =
+        record {
+          symbol = λ j l.
+              rw (read-padded _ e (h .sized .n-high) l, h .p-is) (body-symbol width bytes generatorAt (generator-body (h .readable)) j (omega arith));
+        }
+
+    pub generator-is : place g ≡ bookOf width bytes .generator
+    unfolding bookOf
+    generator-is =
+        ap place (e ∙ padded-whole 63 n _ (λ k l b. body-zero width bytes generatorAt (generator-body (h .readable)) k l (omega (arith, h .sized .n-is))))
+
+    pub degree-is : degreeOf n (place g) ≡ bookOf width bytes .degree
+    unfolding bookOf
+    degree-is = ap (degreeOf n) generator-is ∙ rw (h .sized .n-is)
+
+    pub generator-test : generatorTest p n (place g) ≡ generatorOk (fieldOf bytes) (bookOf width bytes)
+    unfolding generatorTest generatorOk bookOf
+    generator-test = ap (generatorTest p n) generator-is ∙ rw (h .p-is, h .sized .n-is)

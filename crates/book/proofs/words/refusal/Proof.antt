@@ -1,0 +1,95 @@
+-- `book::words::refusal` meets its contract: each return rewrites with the tests that led there.
+-- Assumes nothing.
+use mathlib.Core.Path.{_≡_, _∙_}
+use mathlib.Core.Bool.{true}
+use Rattle.spec_book.specs.Layout.{width, fieldOf, bookOf}
+use Rattle.spec_book.specs.Conditions.{generatorOk, limitsOk, bookRefusal}
+use Rattle.book_records.proofs.Tested.{failed, passed}
+use Rattle.book.proofs.Reading.{read-sizes}
+use Rattle.book.proofs.Gathering.{gathered-degree, gathered-word, gathered-generator, gathered-limits}
+use borrow.Author.Needs.{needs}
+use Rattle.book.proofs.words.refusal.Statement.{statement}
+use Rattle.book.proofs.words.refusal.Tie as tie
+
+generator-ok-requires : tie.Need-generator-ok-requires
+generator-ok-requires c κs =
+    let h = c .before .before .pre in
+    (read-sizes (h .read), gathered-degree h, h .table .multiples, gathered-word h)
+
+returns : tie.Need-returns
+unfolding bookRefusal
+returns c =
+    let s = c .before in
+    rw (failed (s .generator-ok .ensures ∙ gathered-generator (s .before .before .before .pre)) (c .if1 .taken))
+
+-- the tests that were passed
+generates : (c : tie.Else1) → let book = c .before .before .before .before .args .book .now in generatorOk (fieldOf book) (bookOf width book) ≡ true
+generates c =
+    let s = c .before in
+    passed (s .generator-ok .ensures ∙ gathered-generator (s .before .before .before .pre)) (c .if1 .left)
+
+limited : (c : tie.Else2) → let book = c .before .before .before .before .before .before .args .book .now in limitsOk (fieldOf book) (bookOf width book) ≡ true
+limited c =
+    let s = c .before in
+    passed (s .limits-ok .ensures ∙ gathered-limits (s .before .before .before .before .before .pre)) (c .if2 .left)
+
+limits-ok-requires : tie.Need-limits-ok-requires
+limits-ok-requires c κs = search needs
+
+returns-2 : tie.Need-returns-2
+unfolding bookRefusal
+returns-2 c =
+    let s = c .before in
+    rw (generates (s .before), failed (s .limits-ok .ensures ∙ gathered-limits (s .before .before .before .before .before .pre)) (c .if2 .taken))
+
+duals-ok-requires : tie.Need-duals-ok-requires
+duals-ok-requires c κs = let h = c .before .before .before .before .before .before .pre in (h .read, h .duals-is, h .table)
+
+returns-3 : tie.Need-returns-3
+unfolding bookRefusal
+returns-3 c =
+    let s = c .before .before in
+    rw (generates (s .before .before), limited s, failed (c .before .duals-ok .ensures) (c .if3 .taken))
+
+distinct-ok-requires : tie.Need-distinct-ok-requires
+distinct-ok-requires c κs =
+    let h = c .before .before .before .before .before .before .before .before .pre in
+    (h .read .readable, h .read .sized, h .duals-is)
+
+returns-4 : tie.Need-returns-4
+unfolding bookRefusal
+returns-4 c =
+    let t = c .before .before in
+    let s = t .before .before in
+    rw (
+      generates (s .before .before),
+      limited s,
+      passed (t .before .duals-ok .ensures) (t .if3 .left),
+      failed (c .before .distinct-ok .ensures) (c .if4 .taken),
+    )
+
+returns-5 : tie.Need-returns-5
+unfolding bookRefusal
+returns-5 c =
+    let t = c .before .before in
+    let s = t .before .before in
+    rw (
+      generates (s .before .before),
+      limited s,
+      passed (t .before .duals-ok .ensures) (t .if3 .left),
+      passed (c .before .distinct-ok .ensures) (c .if4 .left),
+    )
+
+pub refusal-spec : {M : Type 1} → statement M
+refusal-spec =
+    tie.close
+    (tie.spec
+    generator-ok-requires
+    returns
+    limits-ok-requires
+    returns-2
+    duals-ok-requires
+    returns-3
+    distinct-ok-requires
+    returns-4
+    returns-5)

@@ -1,0 +1,45 @@
+-- The product of a dual word with the generator, by the table of the generator's multiples.
+-- Assumes nothing.
+use mathlib.Core.Path.{_≡_, refl, ap, _∙_}
+use mathlib.Core.List.{List}
+use Prim.Native.Nat.{ℕ, _+_, _*_, _%_, _^_, _≤_, _<_}
+use native.Mathlib.Nat.{mod-eq-of-lt, le-refl, lt-irrefl}
+use native.Mathlib.Omega.{arith}
+use lib.ListN.{length}
+use Rattle.spec_range.specs.Table.{table}
+use Rattle.spec_field.specs.Field.{FieldLaws}
+use Rattle.spec_field.specs.Symbols.{gf}
+use Rattle.spec_field.proofs.Gf.{gf-laws}
+use Rattle.spec_word.proofs.Product.{product-cong, product-comm}
+use Rattle.word_array.specs.Stored.{place}
+use Rattle.word_table.specs.Multiples.{wordOf}
+use Rattle.word_table.specs.Rows.{turnedSum}
+use Rattle.word_table.proofs.Tables.{wordOf-period}
+use Rattle.word_table.proofs.Sums.{product-at}
+use Rattle.spec_book.specs.Layout.{width, dualAt}
+use Rattle.book_duals.specs.Duals.{generatorWord, dualWord, dualProduct, Tested, Table}
+use Rattle.book_duals.proofs.Places.{dual-period, dual-at}
+
+module _ {bytes t : List ℕ} {p n duals l start : ℕ} (h : Tested bytes p n duals) (tab : Table bytes p n t) (b : l < duals)
+    (e : start ≡ dualAt width l + 1) where
+  laws : FieldLaws (gf p)
+  laws = gf-laws p (h .sizes .p-low) (h .sizes .p-high)
+
+  dual-symbol : (j : ℕ) → j < n → place bytes (start + j) < 2 ^ p
+  dual-symbol j k = rw e (h .symbol l j b (omega (arith, h .sizes .n-high)))
+
+  -- its row is in the table
+  pub dual-row : (j : ℕ) → j < n → 128 * place bytes (start + j) + 128 ≤ length t
+  dual-row j k = omega (arith, dual-symbol j k, tab .multiples .size)
+
+  generates : (u : ℕ) → u < n → wordOf n t u ≡ generatorWord n bytes u
+  unfolding generatorWord
+  generates u k = let m : u % n ≡ u = mod-eq-of-lt k in tab .word u k ∙ ap (place bytes) (omega arith)
+
+  -- the sum of its rows is its product with the generator
+  pub dual-product : {word : List ℕ} → word ≡ table 64 (turnedSum n n (λ u. place bytes (start + u)) t)
+      → (j : ℕ) → j < n → place word j ≡ dualProduct p n bytes l j
+  dual-product s j k =
+      product-at (h .sizes) (tab .multiples) (le-refl n) dual-symbol (dual-at bytes l e) (λ u a b. absurd (lt-irrefl u (omega arith))) s j k
+      ∙ product-comm (gf p) laws n (dualWord n bytes l) (wordOf n t) (dual-period n bytes l) (wordOf-period n t) j
+      ∙ product-cong (gf p) laws n generates (λ i. refl) j

@@ -1,0 +1,73 @@
+-- The table of a packed word's multiples as it is built: the rows below c put, for the symbols i of each byte.
+-- Assumes nothing.
+use mathlib.Core.Path.{_≡_, sym, ap, _∙_, subst}
+use mathlib.Core.List.{List}
+use Prim.Native.Nat.{ℕ, _+_, _*_, _/_, _%_, _^_, _≤_, _<_}
+use native.Mathlib.Nat.{mul-comm, zero-mod, div-eq-of-lt, div-le-self}
+use native.Mathlib.Decide.{decLt}
+use native.Mathlib.Omega.{arith}
+use lib.Bits.{bitXor}
+use lib.ListN.{length}
+use lib.Pow.{pow-mono}
+use Rattle.spec_field.specs.Symbols.{product}
+use Rattle.spec_field.proofs.Gf.{gf-laws}
+use Rattle.word_array.specs.Stored.{place, Sizes}
+use Rattle.word_table.specs.Multiples.{Twofold, entry, Begun, RowPut, Tabled}
+use Rattle.word_table.proofs.Rows.{Reading, ReadAs, Rows, rows-first, rows-double, rows-end}
+use Rattle.book_duals.specs.Lanes.{lane, lanes, doubleAll}
+use Rattle.book_duals.proofs.Lanes.{lane-zero, lane-xor, lane-lt, lanes-length, lanes-at}
+use Rattle.book_duals.proofs.ByteTests.{lane-double}
+
+-- the rows below c are the multiples of d, symbol by symbol
+pub record LaneRows (p c : ℕ) (d t : List ℕ) : Type 0 where
+  pub rows : (i : ℕ) → i < 9 → Rows p c (lane p i) d t
+
+reading : (p i : ℕ) (d : List ℕ) → Reading p (lane p i) d
+reading p i d = record { zero = lane-zero p i; sum = lane-xor p i; symbol = λ j l. lane-lt p i (place d j) }
+
+as-lanes : (p i : ℕ) (l : List ℕ) → ReadAs (lane p i) l (lanes p i l)
+as-lanes p i l = record { at = lanes-at p i l }
+
+-- a byte with no digits but those of 8 / p symbols
+no-more : (p x : ℕ) → x < 2 ^ (8 / p * p) → lane p (8 / p) x ≡ 0
+unfolding lane
+no-more p x l = ap (λ (y : ℕ). y % 2 ^ p) (div-eq-of-lt (subst (λ (k : ℕ). x < 2 ^ k) (mul-comm (8 / p) p) l)) ∙ zero-mod (2 ^ p)
+
+-- 2 is below 2 ^ p only where p is 2 or more
+two-digits : (p : ℕ) → 2 < 2 ^ p → 2 ≤ p
+two-digits p h = go (decLt p 2)
+  where
+    go : Dec (p < 2) → 2 ≤ p
+    go (yes l) = let low : 2 ^ p ≤ 2 ^ 1 = pow-mono {i = p} {j = 1} (omega arith) in absurd (omega (arith, low))
+    go (no l) = omega arith
+
+module _ {p n : ℕ} {w d : List ℕ} (s : Sizes p n) (two : Twofold (8 / p * p) n w d) where
+  -- rows 0 and 1
+  pub lanes-first : {t₀ t : List ℕ} → Begun 128 d t₀ t → LaneRows p 2 d t
+  lanes-first h = record { rows = λ i b. rows-first s (reading p i d) h }
+
+  -- the two rows made from row c, which has no digits but those of 8 / p symbols either
+  pub lanes-double : {c : ℕ} {t t₁ t₂ : List ℕ} → p ≤ 3 → 1 ≤ c → LaneRows p (2 * c) d t → 2 * c < 2 ^ p → ((k : ℕ) → place t₁ k < 256)
+      → RowPut (2 * c) (λ j. doubleAll p (entry t c j)) t t₁ → RowPut (2 * c + 1) (λ j. bitXor (entry t₁ (2 * c) j) (place d j)) t₁ t₂
+      → LaneRows p (2 * (c + 1)) d t₂
+  lanes-double {c} {t} {t₁} high pos h l byte put₁ put₂ =
+      record {
+        rows = λ i b. rows-double s (reading p i d) pos (h .rows i b) l put₁
+            (λ j k. lane-double p (entry t c j) i (two-digits p (omega arith)) high (small j k) (stored j k) b)
+            put₂;
+      }
+    where
+      stored : (j : ℕ) → j < 128 → lane p (8 / p) (entry t c j) ≡ 0
+      stored j k =
+          h .rows (8 / p) (omega (arith, div-le-self 8 p)) .rows c j (omega arith) k
+          ∙ ap (product p c) (no-more p (place d j) (two .symbols .symbol j k)) ∙ gf-laws p (s .p-low) (s .p-high) .mul-zero c
+
+      small : (j : ℕ) → j < 128 → entry t c j < 256
+      small j k = subst (λ (x : ℕ). x < 256) (put₁ .low (128 * c + j) (omega arith)) (byte (128 * c + j))
+
+  -- all rows
+  pub lanes-end : {c : ℕ} {t : List ℕ} (t₀ : List ℕ) → LaneRows p c d t → 2 ^ p ≤ c → 128 * 2 ^ p ≤ length t₀ → length t ≡ length t₀
+      → (i : ℕ) → i < 9 → Tabled p n (lanes p i w) (lanes p i t₀) (lanes p i t)
+  lanes-end {t = t} t₀ h l size long i b =
+      rows-end s (reading p i d) (h .rows i b) l two (as-lanes p i w) (as-lanes p i t)
+      (subst (λ (x : ℕ). 128 * 2 ^ p ≤ x) (sym (lanes-length p i t₀)) size) (lanes-length p i t ∙ long ∙ sym (lanes-length p i t₀))

@@ -1,0 +1,9 @@
+pub mod Places
+pub mod Weights
+pub mod Joined
+pub mod DualProduct
+pub mod Lanes
+pub mod ByteTests
+pub mod Packing
+pub mod LaneRows
+pub mod LaneProduct

@@ -1,1 +1,0 @@
-// Document 01's cases 1 to 14, in specs/, and their proof, in proofs/. This crate has no code.

@@ -1,0 +1,83 @@
+-- What an open book gives to the code that works with it: the refusal numbers by the parameters, and the generator off its table.
+-- Assumes nothing.
+use mathlib.Core.Path.{_≡_, refl, sym, ap, _∙_, subst}
+use mathlib.Core.Bool.{Bool, true, false, cond}
+use mathlib.Core.List.{List}
+use Prim.Native.Nat.{ℕ, _-_, _%_, _^_, _≤_, _<_}
+use native.Mathlib.Nat.{mod-eq-of-lt}
+use native.Mathlib.Omega.{arith}
+use lib.Dec.{eqb, eqb→eq}
+use lib.ListN.{length}
+use Rattle.spec_word.specs.Word.{at}
+use Rattle.spec_book.specs.Layout.{width, bookOf}
+use Rattle.spec_book.specs.Conditions.{inputRefusal}
+use Rattle.spec_book.proofs.Inputs.{accepted-input}
+use Rattle.spec_operations.specs.Coding.{codeInputRefusal, readInputRefusal}
+use Rattle.word_array.specs.Stored.{place}
+use Rattle.word_table.specs.Multiples.{wordOf}
+use Rattle.book.specs.Opened.{fewSymbols, tableRoom, Opens, OpenBook}
+use Rattle.book.specs.declared.Opened.{Opened}
+use Rattle.book.specs.declared.Opened.the-variants.{Open}
+use Rattle.book.specs.declared.Params.{Params}
+use Rattle.book.proofs.Answering.{opens-open}
+use Rattle.book.proofs.Described.{generator-loaded, degree-high}
+
+-- the largest room is enough for the table of every book
+pub room-high : (bytes : List ℕ) → tableRoom bytes ≤ 8192
+unfolding tableRoom
+room-high bytes = go (fewSymbols bytes)
+  where
+    go : (few : Bool) → cond few 1024 8192 ≤ 8192
+    go true = omega arith
+    go false = omega arith
+
+-- what opening a book answers and leaves, where it answers that the book is open
+pub opened : (bytes : List ℕ) (r : Opened) (t : List ℕ) → Opens bytes r t → {c : Params} → r ≡ Open c → OpenBook bytes c t
+opened bytes r t h e = let both = opens-open bytes r t h e in record { describes = both .0; table-is = both .1 }
+
+-- ---- an input for which the number 0 was found, and the room for the output
+
+pub record Taken (p : ℕ) (input : List ℕ) (size room wanted : ℕ) : Type 0 where
+  pub size-is : length input ≡ size
+  pub room-is : room ≡ wanted
+  pub symbol : (j : ℕ) → j < size → place input j < 2 ^ p
+
+taken : (p : ℕ) (input : List ℕ) (size room wanted : ℕ) {number q : ℕ} → q ≡ 2 ^ p
+    → number ≡ inputRefusal q (eqb (length input) size) (eqb room wanted) input → number ≡ 0 → Taken p input size room wanted
+taken p input size room wanted hq h z =
+    let i = accepted-input _ _ _ input (sym h ∙ z) in
+    let e : length input ≡ size = eqb→eq (length input) size (i .size) in
+    record {
+      size-is = e;
+      room-is = eqb→eq room wanted (i .sizes);
+      symbol = λ j l. subst (λ (q : ℕ). place input j < q) hq (i .symbol j (subst (λ (k : ℕ). j < k) (sym e) l));
+    }
+
+-- ---- by the bytes of the open book
+
+module _ {bytes : List ℕ} {c : Params} {t : List ℕ} (b : OpenBook bytes c t) where
+  -- the number that was found is the definition's, and what it tells where it is 0
+  module _ (input : List ℕ) (room : ℕ) {number q : ℕ} (hq : q ≡ 2 ^ c .p) where
+    module _ (h : number ≡ inputRefusal q (eqb (length input) (c .n - c .degree)) (eqb room (c .n)) input) where
+      pub code-number : number ≡ codeInputRefusal bytes input room
+      unfolding codeInputRefusal
+      code-number = h ∙ rw (hq, b .describes .p-is, b .describes .n-is, b .describes .degree-is)
+
+      pub message-taken : number ≡ 0 → Taken (c .p) input (c .n - c .degree) room (c .n)
+      message-taken z = taken (c .p) input (c .n - c .degree) room (c .n) hq h z
+
+    module _ (h : number ≡ inputRefusal q (eqb (length input) (c .n)) (eqb room (c .n - c .degree)) input) where
+      pub read-number : number ≡ readInputRefusal bytes input room
+      unfolding readInputRefusal
+      read-number = h ∙ rw (hq, b .describes .p-is, b .describes .n-is, b .describes .degree-is)
+
+      pub word-taken : number ≡ 0 → Taken (c .p) input (c .n) room (c .n - c .degree)
+      word-taken z = taken (c .p) input (c .n) room (c .n - c .degree) hq h z
+
+  -- the table's word is the generator
+  pub word-is : (j : ℕ) → wordOf (c .n) t j ≡ bookOf width bytes .generator (j % c .n)
+  unfolding at
+  word-is j = b .table-is .word j ∙ generator-loaded bytes c (b .describes) refl refl (j % c .n)
+
+  pub word-low : (i : ℕ) → i < c .degree → wordOf (c .n) t i ≡ bookOf width bytes .generator i
+  word-low i l = word-is i ∙ ap (bookOf width bytes .generator) (mod-eq-of-lt (omega (arith, degree-high bytes c (b .describes))))

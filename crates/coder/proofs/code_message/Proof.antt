@@ -1,0 +1,74 @@
+-- `coder::code_message` meets its contract.
+-- Assumes nothing.
+use mathlib.Core.Path.{refl, sym, _∙_}
+use native.Mathlib.Omega.{arith}
+use lib.ListN.{length}
+use Rattle.spec_operations.proofs.Wrote.{wrote-refused, wrote-made}
+use Rattle.book.proofs.Described.{params-sizes, degree-high}
+use Rattle.coder.proofs.Opening.{code-number, message-taken}
+use Rattle.coder.proofs.Working.{room-within, rows, word-long, word-coded}
+use borrow.Author.Needs.{needs}
+use Rattle.coder.proofs.code_message.Statement.{statement}
+use Rattle.coder.proofs.code_message.Tie as tie
+
+sub-k : tie.Need-sub-k
+sub-k c = omega (arith, degree-high _ _ (c .before .before .before .before .pre .open-book .describes))
+
+order-requires : tie.Need-order-requires
+order-requires c κs = params-sizes _ _ (c .before .before .before .before .pre .open-book .describes) .p-high
+
+refusal-requires : tie.Need-refusal-requires
+refusal-requires c κs = search needs
+
+returns : tie.Need-returns
+returns c = λ bytes b. wrote-refused (code-number b _ _ (c .before .before .order .ensures) (c .before .refusal .ensures)) (c .if1 .taken)
+
+product-requires : tie.Need-product-requires
+product-requires c κs =
+    let s = c .before in
+    let b = s .before .before .before .before .before .before .pre .open-book in
+    let i = message-taken b _ _ (s .before .order .ensures) (s .refusal .ensures) (c .if1 .left) in
+    let below = degree-high _ _ (b .describes) in
+    rows b i (omega arith) (omega (arith, i .size-is))
+
+slice-aggregate-store : tie.Need-slice-aggregate-store
+slice-aggregate-store c = search needs
+
+store-requires : tie.Need-store-requires
+store-requires c κs =
+    let r = c .before .before in
+    let s = r .before .before in
+    let start = s .before .before .before .before .before .before in
+    let a = start .args in
+    let b = start .pre .open-book in
+    let i = message-taken b (a .message .now) (length (a .word .now)) (s .before .order .ensures) (s .refusal .ensures) (r .before .if1 .left) in
+    let below = degree-high _ _ (b .describes) in
+    room-within b i (omega arith) (r .product .result) (word-long b i (omega arith) (r .product .ensures))
+
+same-length : tie.Need-same-length
+same-length c = search needs
+
+returns-2 : tie.Need-returns-2
+returns-2 c =
+    let r = c .before .before .before .before .before in
+    let s = r .before .before in
+    let z = r .before .if1 .left in
+    λ bytes b.
+    let i = message-taken b _ _ (s .before .order .ensures) (s .refusal .ensures) z in
+    let below = degree-high _ _ (b .describes) in
+    wrote-made (sym (code-number b _ _ (s .before .order .ensures) (s .refusal .ensures)) ∙ z)
+    (word-coded b i (omega arith) refl (r .product .ensures) (c .before .before .store .ensures))
+
+pub code-message-spec : {M : Type 1} → statement M
+code-message-spec =
+    tie.close
+    (tie.spec
+    sub-k
+    order-requires
+    refusal-requires
+    returns
+    product-requires
+    slice-aggregate-store
+    store-requires
+    same-length
+    returns-2)

@@ -1,0 +1,116 @@
+-- `coder::read_word` meets its contract.
+-- Assumes nothing.
+use mathlib.Core.Path.{refl}
+use native.Mathlib.Omega.{arith}
+use lib.ListN.{length}
+use borrow.Author.Tests.{not-true, not-false}
+use Rattle.spec_operations.proofs.Wrote.{wrote-refused, wrote-made}
+use Rattle.spec_operations.proofs.Coding.{word-refused, no-code-word, code-word}
+use Rattle.book.proofs.Described.{params-sizes, params-degree-sizes, degree-low, degree-high}
+use Rattle.coder.proofs.Opening.{read-number, word-taken}
+use Rattle.coder.proofs.Working.{room-within, word-stored, word-tested, word-read}
+use borrow.Author.Needs.{needs}
+use Rattle.coder.proofs.read_word.Statement.{statement}
+use Rattle.coder.proofs.read_word.Tie as tie
+
+sub-k : tie.Need-sub-k
+sub-k c = omega (arith, degree-high _ _ (c .before .before .before .pre .open-book .describes))
+
+order-requires : tie.Need-order-requires
+order-requires c κs = params-sizes _ _ (c .before .before .before .pre .open-book .describes) .p-high
+
+refusal-requires : tie.Need-refusal-requires
+refusal-requires c κs = search needs
+
+returns : tie.Need-returns
+returns c =
+    λ bytes b.
+    wrote-refused (word-refused _ _ _ (read-number b _ _ (c .before .before .order .ensures) (c .before .refusal .ensures)) (c .if1 .taken)) (c .if1 .taken)
+
+load-requires : tie.Need-load-requires
+load-requires c κs =
+    let s = c .before in
+    let start = s .before .before .before .before .before in
+    let a = start .args in
+    let b = start .pre .open-book in
+    let i = word-taken b (a .word .now) (length (a .message .now)) (s .before .order .ensures) (s .refusal .ensures) (c .if1 .left) in
+    (params-sizes _ _ (b .describes) .n-high, omega (arith, i .size-is))
+
+divide-requires : tie.Need-divide-requires
+divide-requires c κs =
+    let s = c .before .before in
+    let start = s .before .before .before .before .before in
+    let a = start .args in
+    let b = start .pre .open-book in
+    let d = b .describes in
+    let i = word-taken b (a .word .now) (length (a .message .now)) (s .before .order .ensures) (s .refusal .ensures) (c .before .if1 .left) in
+    (params-sizes _ _ d, degree-low _ _ d, degree-high _ _ d, word-stored b _ (c .load .ensures) i, b .table-is .multiples)
+
+slice-aggregate-is-zero : tie.Need-slice-aggregate-is-zero
+slice-aggregate-is-zero c = search needs
+
+is-zero-requires : tie.Need-is-zero-requires
+is-zero-requires c κs =
+    let start = c .before .before .before .before .before .before .before .before .before .before in
+    let degree = params-degree-sizes _ _ (start .pre .open-book .describes) .n-high in
+    (omega arith, omega (arith, c .before .before .divide .ensures .long))
+
+returns-2 : tie.Need-returns-2
+returns-2 c =
+    let r = c .before .before .before .before in
+    let l = r .before in
+    let s = l .before .before in
+    λ bytes b.
+    let tested = word-tested b _ (l .load .ensures) (r .divide .ensures) (c .before .is-zero .ensures) refl in
+    wrote-refused
+    (no-code-word _ _ _ (read-number b _ _ (s .before .order .ensures) (s .refusal .ensures)) (l .before .if1 .left) tested (not-true _ (c .if2 .taken)) refl)
+    (λ e. absurd (omega arith))
+
+slice-aggregate-store : tie.Need-slice-aggregate-store
+slice-aggregate-store c = search needs
+
+store-requires : tie.Need-store-requires
+store-requires c κs =
+    let r = c .before .before .before .before .before .before .before in
+    let s = r .before .before .before in
+    let start = s .before .before .before .before .before in
+    let a = start .args in
+    let b = start .pre .open-book in
+    let i = word-taken b (a .word .now) (length (a .message .now)) (s .before .order .ensures) (s .refusal .ensures) (r .before .before .if1 .left) in
+    room-within b i (omega arith) (r .divide .result .quotient) (r .divide .ensures .room)
+
+same-length : tie.Need-same-length
+same-length c = search needs
+
+returns-3 : tie.Need-returns-3
+returns-3 c =
+    let t = c .before .before .before .before .before .before in
+    let r = t .before .before .before .before in
+    let l = r .before in
+    let s = l .before .before in
+    let z = l .before .if1 .left in
+    λ bytes b.
+    let a = s .before .before .before .before .before .args in
+    let i = word-taken b (a .word .now) (length (a .message .now)) (s .before .order .ensures) (s .refusal .ensures) z in
+    let tested = word-tested b _ (l .load .ensures) (r .divide .ensures) (t .before .is-zero .ensures) refl in
+    wrote-made
+    (code-word _ _ _ (read-number b _ _ (s .before .order .ensures) (s .refusal .ensures)) z tested (not-false _ (t .if2 .left)))
+    (word-read b _ (l .load .ensures) (r .divide .ensures) (i .room-is) (c .before .before .store .ensures))
+
+pub read-word-spec : {M : Type 1} → statement M
+read-word-spec =
+    tie.close
+    (tie.spec
+    sub-k
+    order-requires
+    refusal-requires
+    returns
+    load-requires
+    divide-requires
+    slice-aggregate-is-zero
+    is-zero-requires
+    returns-2
+    slice-aggregate-store
+    store-requires
+    same-length
+    returns-3)

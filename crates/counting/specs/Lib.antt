@@ -1,5 +1,0 @@
-pub mod Count
-pub mod Terms
-pub mod Product
-pub mod RowZero
-pub mod Listed

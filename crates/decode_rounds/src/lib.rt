@@ -1,0 +1,129 @@
+// The rounds of the decoder. A word is held by value; the matrix is a lent buffer. Nothing is read of the book once its terms are listed.
+ghost use mathlib.Core.Path.{_≡_};
+ghost use mathlib.Core.List.{List};
+ghost use Prim.Native.Nat.{ℕ, _*_, _^_};
+ghost use lib.ListN.{length};
+ghost use Rattle.spec_book.specs.Layout.{width, fieldOf, bookOf};
+ghost use Rattle.spec_decoding.specs.Matrix.{matrix};
+ghost use Rattle.spec_decoding.specs.Decode.{decode};
+ghost use Rattle.word_array.specs.Stored.{Stored};
+ghost use Rattle.book.specs.Params.{Tabulated, Describes};
+ghost use Rattle.decode_rounds.specs.Rounds.{listed, allRounds, Prepared, TermsRoom, Ready, Stepped, Ended};
+use book::Params;
+use sizes::Word;
+
+// The kind of answer.
+pub enum Kind {
+    Clean,
+    Mended,
+    Stalled,
+    Spent,
+}
+
+// What comes of a round.
+pub enum Step {
+    Empty,
+    Reached,
+    Going,
+}
+
+// The word after a round, and what came of it.
+pub struct Rounded {
+    pub step: Step,
+    pub word: Word,
+}
+
+// How the rounds ended, and the answer word.
+pub struct End {
+    pub kind: Kind,
+    pub rounds: u8,
+    pub word: Word,
+}
+
+// One round: makes the matrix and the update set, subtracts, and tests for a code word.
+fn round(c: Params, t: &[u8], terms: &[u16], w: Word, m: &mut [u16]) -> Rounded
+    requires { ⌜ Ready c (now t) (now terms) w (now m) ⌝ }
+    ensures { λ r. ⌜ ((bytes : List ℕ) → Prepared bytes c (now (t .entry)) (now (terms .entry))
+        → Stepped bytes (matrix (fieldOf bytes) (bookOf width bytes)) w r (now (m .exit))) ⌝ }
+{
+    let n = c.n;
+    matrix::fill(c.p, n, c.duals, terms, w, m);
+    let e = decode_update::corrections(c.p, n, c.places, m);
+    let next = word_array::add(n, w, e);
+    if word_array::is_zero(n, &e) {
+        return Rounded {
+            step: Step::Empty,
+            word: next,
+        };
+    }
+    if word_divide::divides(c.p, n, c.degree, t, next) {
+        return Rounded {
+            step: Step::Reached,
+            word: next,
+        };
+    }
+    Rounded {
+        step: Step::Going,
+        word: next,
+    }
+}
+
+// The rounds for a received word that is not a code word.
+fn go(c: Params, t: &[u8], terms: &[u16], r: Word, m: &mut [u16]) -> End
+    requires { ⌜ Ready c (now t) (now terms) r (now m) ⌝ }
+    ensures { λ x. ⌜ ((bytes : List ℕ) → Prepared bytes c (now (t .entry)) (now (terms .entry))
+        → Ended bytes (allRounds bytes (matrix (fieldOf bytes) (bookOf width bytes)) (listed bytes r)) x (now (m .exit))) ⌝ }
+{
+    let most = c.rounds;
+    let mut w = r;
+    let mut made: u8 = 0;
+    while made < most {
+        let s = round(c, t, terms, w, m);
+        let step = s.step;
+        let next = s.word;
+        made += 1;
+        match step {
+            Step::Empty => {
+                return End {
+                    kind: Kind::Stalled,
+                    rounds: made,
+                    word: r,
+                };
+            }
+            Step::Reached => {
+                return End {
+                    kind: Kind::Mended,
+                    rounds: made,
+                    word: next,
+                };
+            }
+            Step::Going => {
+                w = next;
+            }
+        }
+    }
+    End {
+        kind: Kind::Spent,
+        rounds: made,
+        word: r,
+    }
+}
+
+// Decodes the word r: Clean where it is a code word, with a matrix of zeros; else by rounds, before the first of which the terms are listed.
+pub fn run(book: &[u8], c: Params, t: &[u8], terms: &mut [u16], r: Word, m: &mut [u16]) -> End
+    requires { ⌜ Describes (now book) c × Tabulated (now book) (c .p) (c .n) (now t) × TermsRoom (now book) c (now terms)
+        × Stored (c .p) (c .n) r × (length (now m) ≡ 2 ^ c .p * c .n) ⌝ }
+    ensures { λ x. ⌜ Ended (now (book .entry)) (decode (fieldOf (now (book .entry))) (bookOf width (now (book .entry))) (listed (now (book .entry)) r)) x
+        (now (m .exit)) × TermsRoom (now (book .entry)) c (now (terms .exit)) ⌝ }
+{
+    if word_divide::divides(c.p, c.n, c.degree, t, r) {
+        matrix::clear(m);
+        return End {
+            kind: Kind::Clean,
+            rounds: 0,
+            word: r,
+        };
+    }
+    matrix_terms::ready(book, c.p, c.n, c.duals, terms);
+    go(c, t, terms, r, m)
+}

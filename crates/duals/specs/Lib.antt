@@ -1,3 +1,0 @@
-pub mod Duals
-pub mod Rows
-pub mod Lanes

@@ -1,0 +1,4 @@
+pub mod Count
+pub mod Terms
+pub mod RowZero
+pub mod Listed

@@ -1,0 +1,68 @@
+-- A room of numbers that belongs to an opened book, made once for many matrices. Number 0 is the weight of the dual words, 0 where nothing is listed
+-- yet; the logarithms of the symbols follow, each at the place of its symbol, and from 64 on the powers of x. From 192 on each dual word has a row of 64
+-- terms: one for each nonzero place h, 128 times the logarithm of its symbol and h.
+-- Assumes nothing.
+use mathlib.Core.Path.{_≡_}
+use mathlib.Core.Bool.{cond}
+use mathlib.Core.List.{List}
+use Prim.Native.Nat.{ℕ, _+_, _*_, _/_, _%_, _^_, _≤_, _<_}
+use lib.ListN.{length}
+use Rattle.spec_range.specs.Fold.{fold}
+use Rattle.spec_word.specs.Word.{nonzero}
+use Rattle.word_array.specs.Stored.{place, Sizes, Stored}
+use Rattle.field_powers.specs.Powers.{PowersOf}
+use Rattle.spec_book.specs.Layout.{width, bookOf}
+
+-- the nonzero places of a word b of n symbols, as many as `weight`: a fold over them is the fold over all places that leaves the zero ones out
+pub record Places (n : ℕ) (b : ℕ → ℕ) (weight : ℕ) : Type 0 where
+  pub place-at : ℕ → ℕ
+  pub few : weight ≤ n
+  pub place-lt : (i : ℕ) → i < weight → place-at i < n
+  pub symbol-pos : (i : ℕ) → i < weight → 0 < b (place-at i)
+  pub folds : (op : ℕ → ℕ → ℕ) (e : ℕ) → ((x : ℕ) → op x e ≡ x) → (f : ℕ → ℕ)
+      → fold op e weight (λ i. f (place-at i)) ≡ fold op e n (λ h. cond (nonzero (b h)) (f h) e)
+
+-- `turns` has for each nonzero place h where place h of row log (b h) is
+pub record Turns (n : ℕ) (b : ℕ → ℕ) (logs : List ℕ) (weight : ℕ) (turns : ℕ → ℕ) : Type 0 where
+  pub places : Places n b weight
+  pub turn-at : (i : ℕ) → i < weight → turns i ≡ 128 * place logs (b (places .place-at i)) + places .place-at i
+
+-- dual word l of a book's bytes, with the period n
+abbrev pub dualOf : List ℕ → ℕ → ℕ → ℕ
+dualOf bytes l = bookOf width bytes .dual l
+
+-- term i of dual word l
+abbrev pub term : List ℕ → ℕ → ℕ → ℕ
+term terms l i = place terms (192 + 64 * l + i)
+
+-- what makes the reads of a room safe, about its numbers alone
+pub record Terms (p n duals : ℕ) (terms : List ℕ) : Type 0 where
+  pub sizes : Sizes p n
+  pub few-duals : duals ≤ 32
+  pub long : 2240 ≤ length terms
+  pub powers : PowersOf p terms
+  pub few : place terms 0 ≤ n
+  pub log-lt : (l i : ℕ) → l < duals → i < place terms 0 → term terms l i / 128 + 1 < 2 ^ p
+  pub place-lt : (l i : ℕ) → l < duals → i < place terms 0 → term terms l i % 128 < n
+
+-- row l has the terms of the word b
+pub record RowOf (p n l : ℕ) (b : ℕ → ℕ) (terms : List ℕ) : Type 0 where
+  pub symbol : (j : ℕ) → b j < 2 ^ p
+  pub turns-of : Turns n b terms (place terms 0) (term terms l)
+
+-- the room has the terms of the first `duals` of the dual words b
+pub record TermsOf (p n duals : ℕ) (b : ℕ → ℕ → ℕ) (terms : List ℕ) : Type 0 where
+  pub numbers : Terms p n duals terms
+  pub row-of : (l : ℕ) → l < duals → RowOf p n l (b l) terms
+
+-- nothing is listed in the room yet, or these are the terms
+pub data Kept (p n duals : ℕ) (b : ℕ → ℕ → ℕ) (terms : List ℕ) : Type 0 where
+  unlisted : place terms 0 ≡ 0 → Kept p n duals b terms
+  already : TermsOf p n duals b terms → Kept p n duals b terms
+
+-- what filling a matrix m of the word r asks: the room has the terms of some dual words
+pub record Filling (p n duals : ℕ) (terms r m : List ℕ) : Type 0 where
+  pub words : ℕ → ℕ → ℕ
+  pub terms-of : TermsOf p n duals words terms
+  pub word : Stored p n r
+  pub size : length m ≡ 2 ^ p * n

@@ -1,3 +1,0 @@
-pub mod Shifted
-pub mod Product
-pub mod Division

@@ -1,0 +1,5 @@
+pub mod Sound
+pub mod Accepting
+pub mod Numbers
+pub mod Known
+pub mod Inputs

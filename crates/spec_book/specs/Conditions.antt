@@ -1,0 +1,114 @@
+-- SCOPE 7: The refusals 1 to 12 in their order, each as the test that is passed where it does not apply, and the first number whose test fails.
+-- (13, the inverse of zero, is of the field alone: spec_field/Operations.)
+-- Assumes nothing.
+use mathlib.Core.Bool.{Bool, not, cond, _&&_, _||_}
+use mathlib.Core.List.{List}
+use Prim.Native.Nat.{ℕ, suc, _%_}
+use lib.Dec.{eqb, leb, ltb}
+use lib.ListN.{length, getD}
+use Rattle.spec_range.specs.Fold.{all}
+use Rattle.spec_field.specs.Field.{FieldOps}
+use Rattle.spec_word.specs.Word.{at, weight, product}
+use Rattle.spec_word.specs.Division.{divides}
+use Rattle.spec_word.specs.CyclicCode.{unity}
+use Rattle.spec_book.specs.Book.{Book, isCodeWord}
+use Rattle.spec_book.specs.Layout.{generatorAt, limitsAt, dualAt, dualCount, byte, bodyPlace, sizeExponent, symbolDigits, wordLength, fieldOf, bookOf}
+
+-- ---- tests of the bytes
+
+module _ (width : ℕ) (bytes : List ℕ) where
+  -- SCOPE 7.1: 1: the length is that of a book with 1 to 32 dual words
+  unfoldable pub lengthOk : Bool
+  lengthOk =
+      leb 1 (dualCount width (length bytes))
+      && leb (dualCount width (length bytes)) 32
+      && eqb (length bytes) (dualAt width (dualCount width (length bytes)))
+
+  -- SCOPE 7.2: 2: the kind bytes are 1, 2, 3 and then 4 for each dual word
+  unfoldable pub kindsOk : Bool
+  kindsOk =
+      eqb (byte bytes 0) 1
+      && eqb (byte bytes generatorAt) 2
+      && eqb (byte bytes (limitsAt width)) 3
+      && all (dualCount width (length bytes)) (λ l. eqb (byte bytes (dualAt width l)) 4)
+
+-- SCOPE 7.3: 3: s is 2 to 6, and p divides it; so p is at most 6
+unfoldable pub sizesOk : List ℕ → Bool
+sizesOk bytes =
+    leb 2 (sizeExponent bytes) && leb (sizeExponent bytes) 6 && leb 1 (symbolDigits bytes) && eqb (sizeExponent bytes % symbolDigits bytes) 0
+
+-- SCOPE 7.4: 4, at place j: c is a symbol, and zero where j is n or more
+abbrev pub placeOk : ℕ → ℕ → ℕ → ℕ → Bool
+placeOk q n j c = ltb c q && (ltb j n || eqb c 0)
+
+module _ (width : ℕ) (bytes : List ℕ) where
+  -- SCOPE 7.4: 4, at every place of the body of the record that starts at `start`
+  unfoldable pub bodyOk : ℕ → Bool
+  bodyOk start = all width (λ j. placeOk (fieldOf bytes .q) (wordLength bytes) j (bodyPlace bytes start j))
+
+  -- SCOPE 7.15: 4, in every body of the book
+  unfoldable pub symbolsOk : Bool
+  symbolsOk = bodyOk generatorAt && all (dualCount width (length bytes)) (λ l. bodyOk (dualAt width l))
+
+-- ---- tests of the book that the bytes hold
+
+module _ (F : FieldOps) (B : Book) where
+  open Book B using (n, degree, generator, most-rounds, most-places, dual-count, dual)
+
+  -- SCOPE 7.5: 5: the generator has degree 1 or more, is monic, and divides x^n − 1
+  unfoldable pub generatorOk : Bool
+  generatorOk = leb 1 degree && eqb (generator degree) 1 && divides F degree generator (suc n) (unity n)
+
+  -- SCOPE 7.6: 6: I is 1 to 63, and D is 1 to n
+  unfoldable pub limitsOk : Bool
+  limitsOk = leb 1 most-rounds && leb most-rounds 63 && leb 1 most-places && leb most-places n
+
+  -- SCOPE 7.7: 7, of dual word l: 1 at place 0, a zero product with the generator, the weight of dual word 0
+  unfoldable pub dualOk : ℕ → Bool
+  dualOk l =
+      eqb (dual l 0) 1
+      && all n (λ m. eqb (product F n generator (dual l) m) 0)
+      && eqb (weight n (dual l)) (weight n (dual 0))
+
+  -- SCOPE 7.15: 7, of every dual word of the book
+  unfoldable pub dualsOk : Bool
+  dualsOk = all dual-count dualOk
+
+  -- SCOPE 3.14: dual words l and m agree at every place
+  unfoldable pub alike : ℕ → ℕ → Bool
+  alike l m = all n (λ j. eqb (dual l j) (dual m j))
+
+  -- SCOPE 7.8: 8: no two dual words are alike
+  unfoldable pub distinctOk : Bool
+  distinctOk = all dual-count (λ l. all l (λ m. not (alike l m)))
+
+-- SCOPE 7.14: the number where the test fails, else what the next tests give
+abbrev pub unless : Bool → ℕ → ℕ → ℕ
+unless ok number rest = cond ok rest number
+
+-- SCOPE 7.14: the first number from 5 to 8 that applies to the book, 0 where none does
+unfoldable pub bookRefusal : FieldOps → Book → ℕ
+bookRefusal F B = unless (generatorOk F B) 5 (unless (limitsOk F B) 6 (unless (dualsOk F B) 7 (unless (distinctOk F B) 8 0)))
+
+-- SCOPE 7.14: the first number from 1 to 8 that applies to the bytes, 0 where the codebook is accepted (3.16)
+unfoldable pub refusal : ℕ → List ℕ → ℕ
+refusal width bytes =
+    unless (lengthOk width bytes) 1
+    (unless (kindsOk width bytes) 2
+    (unless (sizesOk bytes) 3
+    (unless (symbolsOk width bytes) 4
+    (bookRefusal (fieldOf bytes) (bookOf width bytes)))))
+
+-- ---- tests of an operation's input and outputs
+
+-- SCOPE 7.11: every input symbol is below q
+unfoldable pub inputOk : ℕ → List ℕ → Bool
+inputOk q input = all (length input) (λ j. ltb (getD input j 0) q)
+
+-- SCOPE 7.9, 7.10, 7.11: 9 where the input does not fit, 10 where an output is not exact, 11 for an input symbol of q or more
+unfoldable pub inputRefusal : ℕ → Bool → Bool → List ℕ → ℕ
+inputRefusal q fits exact input = unless fits 9 (unless exact 10 (unless (inputOk q input) 11 0))
+
+-- SCOPE 7.12: in read, 12 for a word that is not a code word
+unfoldable pub codeWordRefusal : FieldOps → Book → List ℕ → ℕ
+codeWordRefusal F B w = unless (isCodeWord F B (at (B .n) w)) 12 0

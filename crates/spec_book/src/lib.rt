@@ -1,0 +1,1 @@
+// The codebook's byte layout and the conditions under which it is accepted: definitions in specs/, laws in proofs/. This crate has no code.

@@ -1,0 +1,125 @@
+-- SCOPE 8: The worked cases 1 to 14: what the definitions give, and what SCOPE.md has.
+-- Assumes nothing.
+use mathlib.Core.Path.{_≡_}
+use mathlib.Core.List.{List, [], _∷_}
+use Prim.Native.Nat.{ℕ}
+use Rattle.spec_range.specs.Table.{table}
+use Rattle.spec_field.specs.Symbols.{product}
+use Rattle.spec_word.specs.Word.{at}
+use Rattle.spec_book.specs.Layout.{width, fieldOf, bookOf, wordLength}
+use Rattle.spec_book.specs.Conditions.{refusal}
+use Rattle.spec_coding.specs.Coder.{encode}
+use Rattle.spec_decoding.specs.Matrix.{matrix, cell}
+use Rattle.spec_decoding.specs.Decode.{Kind, holders, decode, mended, stalled, spent}
+use Rattle.spec_decoding.specs.Symmetry.{move}
+use Rattle.spec_cases.specs.Books.{bookA, bookB, bookC}
+
+-- SCOPE 8.18: what is shown of an operation: numbers, or a kind, rounds, changed and the answer word
+pub data Shown : Type 0 where
+  numbers : List ℕ → Shown
+  decoded : Kind → ℕ → ℕ → List ℕ → Shown
+
+-- ---- the operations on a book's bytes. (What a `let` binds is computed once.)
+
+-- SCOPE 3.16: the refusal number of a book, 0 where it is accepted
+unfoldable pub checks : List ℕ → Shown
+checks book =
+    let bytes = book in
+    let number = refusal width bytes in
+    numbers (number ∷ [])
+
+-- SCOPE 4.5: the word that code writes
+unfoldable pub codes : List ℕ → List ℕ → Shown
+codes book f =
+    let bytes = book in
+    let F = fieldOf bytes in
+    let B = bookOf width bytes in
+    let word = encode F B f in
+    numbers word
+
+-- SCOPE 4.13: the entries that matrix writes
+unfoldable pub fills : List ℕ → List ℕ → Shown
+fills book r =
+    let bytes = book in
+    let F = fieldOf bytes in
+    let B = bookOf width bytes in
+    let entries = matrix F B (at (B .n) r) in
+    numbers entries
+
+-- SCOPE 4.16: what decode answers, with its answer word
+unfoldable pub decodes : List ℕ → List ℕ → Shown
+decodes book r =
+    let bytes = book in
+    let F = fieldOf bytes in
+    let B = bookOf width bytes in
+    let x = decode F B r in
+    decoded (x .kind) (x .rounds) (x .changed) (x .answer)
+
+-- SCOPE 4.20: how many nonzero symbols have the peak of each column of the matrix
+unfoldable pub holds : List ℕ → List ℕ → Shown
+holds book r =
+    let bytes = book in
+    let F = fieldOf bytes in
+    let B = bookOf width bytes in
+    let entries = matrix F B (at (B .n) r) in
+    numbers (table (B .n) (holders F B (cell F B entries)))
+
+-- SCOPE 5.11: the word w turned by t, times c, plus v
+unfoldable pub moved : List ℕ → ℕ → ℕ → List ℕ → List ℕ → List ℕ
+moved book t c v w =
+    let bytes = book in
+    move (fieldOf bytes) (wordLength bytes) t c v w
+
+-- ---- the list
+
+-- SCOPE 8.18: the one list, case 1 first
+abbrev pub cases : List (Type 0)
+cases =
+    -- 1. (SCOPE 8.1) p 2: 2 × 3 is 1, and 2 × 2 is 3
+    (numbers (product 2 2 3 ∷ product 2 2 2 ∷ []) ≡ numbers (1 ∷ 3 ∷ []))
+    -- 2. (SCOPE 8.2) A: 1000 is coded as 1101000
+    ∷ (codes (bookA 1) (1 ∷ 0 ∷ 0 ∷ 0 ∷ []) ≡ numbers (1 ∷ 1 ∷ 0 ∷ 1 ∷ 0 ∷ 0 ∷ 0 ∷ []))
+    -- 3. (SCOPE 8.3) A: 1100 is coded as 1011100
+    ∷ (codes (bookA 1) (1 ∷ 1 ∷ 0 ∷ 0 ∷ []) ≡ numbers (1 ∷ 0 ∷ 1 ∷ 1 ∷ 1 ∷ 0 ∷ 0 ∷ []))
+    -- 4. (SCOPE 8.4) C: 01 is coded as 021
+    ∷ (codes (bookC 2) (0 ∷ 1 ∷ []) ≡ numbers (0 ∷ 2 ∷ 1 ∷ []))
+    -- 5. (SCOPE 8.5) A, 1000000: row 0 of the matrix 0222222, row 1 4222222
+    ∷ (fills (bookA 1) (1 ∷ 0 ∷ 0 ∷ 0 ∷ 0 ∷ 0 ∷ 0 ∷ []) ≡ numbers (0 ∷ 2 ∷ 2 ∷ 2 ∷ 2 ∷ 2 ∷ 2 ∷ 4 ∷ 2 ∷ 2 ∷ 2 ∷ 2 ∷ 2 ∷ 2 ∷ []))
+    -- 6. (SCOPE 8.6) A, 1000000: Mended, 1, 1, 0000000
+    ∷ (decodes (bookA 1) (1 ∷ 0 ∷ 0 ∷ 0 ∷ 0 ∷ 0 ∷ 0 ∷ []) ≡ decoded mended 1 1 (0 ∷ 0 ∷ 0 ∷ 0 ∷ 0 ∷ 0 ∷ 0 ∷ []))
+    -- 7. (SCOPE 8.7) A, 1100000: Mended, 1, 1, 1101000, another code word
+    ∷ (decodes (bookA 1) (1 ∷ 1 ∷ 0 ∷ 0 ∷ 0 ∷ 0 ∷ 0 ∷ []) ≡ decoded mended 1 1 (1 ∷ 1 ∷ 0 ∷ 1 ∷ 0 ∷ 0 ∷ 0 ∷ []))
+    -- 8. (SCOPE 8.8) A with D 6, 1000000: as case 6
+    ∷ (decodes (bookA 6) (1 ∷ 0 ∷ 0 ∷ 0 ∷ 0 ∷ 0 ∷ 0 ∷ []) ≡ decoded mended 1 1 (0 ∷ 0 ∷ 0 ∷ 0 ∷ 0 ∷ 0 ∷ 0 ∷ []))
+    -- 9. (SCOPE 8.9) A with D 7, 1000000: Spent, 3, 0, 1000000
+    ∷ (decodes (bookA 7) (1 ∷ 0 ∷ 0 ∷ 0 ∷ 0 ∷ 0 ∷ 0 ∷ []) ≡ decoded spent 3 0 (1 ∷ 0 ∷ 0 ∷ 0 ∷ 0 ∷ 0 ∷ 0 ∷ []))
+    -- 10. (SCOPE 8.10) B, 311: Mended, 1, 1, 111
+    ∷ (decodes bookB (3 ∷ 1 ∷ 1 ∷ []) ≡ decoded mended 1 1 (1 ∷ 1 ∷ 1 ∷ []))
+    -- 11. (SCOPE 8.11) B, 120: Stalled, 1, 0, 120; in each column two symbols have the peak
+    ∷ (decodes bookB (1 ∷ 2 ∷ 0 ∷ []) ≡ decoded stalled 1 0 (1 ∷ 2 ∷ 0 ∷ []))
+    ∷ (holds bookB (1 ∷ 2 ∷ 0 ∷ []) ≡ numbers (2 ∷ 2 ∷ 2 ∷ []))
+    -- 12. (SCOPE 8.12) B, 132, which is 120 turned by 1, times 2, plus 111: Stalled, 1, 0, 132
+    ∷ (decodes bookB (moved bookB 1 2 (1 ∷ 1 ∷ 1 ∷ []) (1 ∷ 2 ∷ 0 ∷ [])) ≡ decoded stalled 1 0 (1 ∷ 3 ∷ 2 ∷ []))
+    -- 13. (SCOPE 8.13) C, 100: Stalled, 1, 0, 100
+    ∷ (decodes (bookC 2) (1 ∷ 0 ∷ 0 ∷ []) ≡ decoded stalled 1 0 (1 ∷ 0 ∷ 0 ∷ []))
+    -- 14. (SCOPE 8.14) C with D 3, 100: Mended, 1, 3, 032
+    ∷ (decodes (bookC 3) (1 ∷ 0 ∷ 0 ∷ []) ≡ decoded mended 1 3 (0 ∷ 3 ∷ 2 ∷ []))
+    ∷ []
+
+-- every case of a list holds
+infixr 5 _also_
+-- SCOPE 8.18: every case of a list holds
+pub data AllHold : List (Type 0) → Type 1 where
+  none : AllHold []
+  _also_ : {c : Type 0} {cs : List (Type 0)} → c → AllHold cs → AllHold (c ∷ cs)
+
+-- SCOPE 3.16: the books that the cases use are accepted
+abbrev pub accepted : List (Type 0)
+accepted =
+    (checks (bookA 1) ≡ numbers (0 ∷ []))
+    ∷ (checks (bookA 6) ≡ numbers (0 ∷ []))
+    ∷ (checks (bookA 7) ≡ numbers (0 ∷ []))
+    ∷ (checks bookB ≡ numbers (0 ∷ []))
+    ∷ (checks (bookC 2) ≡ numbers (0 ∷ []))
+    ∷ (checks (bookC 3) ≡ numbers (0 ∷ []))
+    ∷ []

@@ -1,0 +1,51 @@
+-- "Each column adds up to L × the weight", and so no entry passes it.
+-- Assumes nothing.
+use mathlib.Core.Path.{_≡_, refl, sym, ap, _∙_}
+use mathlib.Core.Bool.{Bool, true, false, cond, _&&_}
+use Prim.Native.Nat.{ℕ, _+_, _*_, _≤_, _<_}
+use native.Mathlib.Nat.{le-trans, le-of-eq}
+use lib.Dec.{eqb}
+use Rattle.spec_range.specs.Fold.{total}
+use Rattle.spec_range.proofs.Tests.{same-eqb}
+use Rattle.spec_range.proofs.Fold.{fold-cong, fold-swap, fold-pick, sums}
+use Rattle.spec_range.proofs.Count.{part-le, total-equal}
+use Rattle.spec_field.specs.Field.{FieldOps, FieldLaws}
+use Rattle.spec_word.specs.Word.{nonzero, weight}
+use Rattle.spec_book.specs.Book.{Book, Usable}
+use Rattle.spec_decoding.specs.Matrix.{checkValue, entryOf, entry}
+use Rattle.spec_decoding.proofs.Matrix.{check-below}
+
+module _ (F : FieldOps) (laws : FieldLaws F) (B : Book) where
+  open FieldOps F using (q)
+  open Book B using (n, dual-count, dual)
+
+  -- a column adds up to what all the choices add
+  pub column-amounts : (amount : ℕ → ℕ → ℕ → ℕ) (r : ℕ → ℕ) (j : ℕ)
+      → total q (λ i. entryOf F B amount r i j) ≡ total dual-count (λ l. total n (λ h. cond (nonzero (dual l h)) (amount l h j) 0))
+  unfolding entryOf
+  column-amounts amount r j =
+      fold-swap _+_ 0 sums q dual-count (λ i l. total n (λ h. cond (nonzero (dual l h) && eqb (value l h) i) (amount l h j) 0))
+      ∙ fold-cong _+_ 0 dual-count (λ l _.
+      fold-swap _+_ 0 sums q n (λ i h. cond (nonzero (dual l h) && eqb (value l h) i) (amount l h j) 0)
+      ∙ fold-cong _+_ 0 n (λ h _.
+      fold-cong _+_ 0 q (λ i _. masked (nonzero (dual l h)) (value l h) i (amount l h j))
+      ∙ fold-pick _+_ 0 sums q (value l h) (check-below F laws B (dual l) r h j) (λ i. cond (nonzero (dual l h)) (amount l h j) 0)))
+    where
+      value : ℕ → ℕ → ℕ
+      value l h = checkValue F B (dual l) r h j
+
+      masked : (b : Bool) (x i a : ℕ) → cond (b && eqb x i) a 0 ≡ cond (eqb i x) (cond b a 0) 0
+      masked true x i a = ap (λ (b : Bool). cond b a 0) (same-eqb {a = x} {b = i} {c = i} {d = x} (λ e. sym e) (λ e. sym e))
+      masked false x i a = go (eqb i x)
+        where
+          go : (b : Bool) → _≡_ {A = ℕ} 0 (cond b 0 0)
+          go true = refl
+          go false = refl
+
+  pub column-total : Usable F B → (r : ℕ → ℕ) (j : ℕ) → total q (λ i. entry F B r i j) ≡ dual-count * weight n (dual 0)
+  unfolding weight
+  column-total ok r j =
+      column-amounts (λ l h j. 1) r j ∙ total-equal dual-count (weight n (dual 0)) (λ l. weight n (dual l)) (ok .one-weight)
+
+  pub entry-le : Usable F B → (r : ℕ → ℕ) {i : ℕ} (j : ℕ) → i < q → entry F B r i j ≤ dual-count * weight n (dual 0)
+  entry-le ok r {i} j h = le-trans (part-le q (λ i. entry F B r i j) h) (le-of-eq (column-total ok r j))

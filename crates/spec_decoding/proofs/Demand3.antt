@@ -1,0 +1,40 @@
+-- Demand 3 of the definitions over GF(2^p), for every codebook whose bytes are not refused.
+-- Assumes nothing.
+use mathlib.Core.Path.{_≡_}
+use mathlib.Core.List.{List}
+use Prim.Native.Nat.{ℕ, _≤_, _<_}
+use lib.Dec.{T}
+use Rattle.spec_field.specs.Field.{FieldOps}
+use Rattle.spec_field.proofs.Gf.{gf-laws}
+use Rattle.spec_word.specs.Word.{at}
+use Rattle.spec_word.proofs.Place.{SymbolList}
+use Rattle.spec_book.specs.Book.{Book, isCodeWord}
+use Rattle.spec_book.specs.Layout.{symbolDigits, fieldOf, bookOf}
+use Rattle.spec_book.specs.Conditions.{refusal}
+use Rattle.spec_book.proofs.Accepting.{accepted}
+use Rattle.spec_decoding.specs.Decode.{decode}
+use Rattle.spec_decoding.specs.Symmetry.{move, Moved}
+use Rattle.spec_decoding.proofs.Symmetry.{move-symbols, symmetry}
+
+module _ (width : ℕ) (wide : 63 ≤ width) (bytes : List ℕ) (e : refusal width bytes ≡ 0) where
+  abbrev F : FieldOps
+  F = fieldOf bytes
+
+  abbrev B : Book
+  B = bookOf width bytes
+
+  -- the moved word is a word
+  pub moved-word : (t c : ℕ) → 0 < c → c < F .q
+      → (v : List ℕ) → SymbolList F (B .n) v → T (isCodeWord F B (at (B .n) v))
+      → (r : List ℕ) → SymbolList F (B .n) (move F (B .n) t c v r)
+  moved-word =
+      let ok = accepted width wide bytes e in
+      move-symbols F (gf-laws (symbolDigits bytes) (ok .0 .p-low) (ok .0 .p-high)) B (ok .1)
+
+  pub demand-3 : (t c : ℕ) → 0 < c → c < F .q
+      → (v : List ℕ) → SymbolList F (B .n) v → T (isCodeWord F B (at (B .n) v))
+      → (r : List ℕ) → SymbolList F (B .n) r
+      → Moved F B t c v (decode F B r) (decode F B (move F (B .n) t c v r))
+  demand-3 =
+      let ok = accepted width wide bytes e in
+      symmetry F (gf-laws (symbolDigits bytes) (ok .0 .p-low) (ok .0 .p-high)) B (ok .1)

@@ -1,0 +1,148 @@
+-- Demand 3 of the definitions: decoding a word that is turned, multiplied and moved by a code word.
+-- Assumes nothing.
+use mathlib.Core.Path.{_≡_, refl, sym, ap, ap₂, _∙_, subst}
+use mathlib.Core.List.{List}
+use Prim.Native.Nat.{ℕ, _+_, _-_, _*_, _%_, _<_}
+use native.Mathlib.Nat.{mod-lt, mod-mod, mod-add-mod, mod-eq-of-lt}
+use lib.Dec.{T}
+use lib.ListN.{getD}
+use lib.Seq.{ext-getD}
+use Rattle.spec_field.specs.Field.{FieldOps, FieldLaws}
+use Rattle.spec_word.specs.Word.{at, turn, scale, plus}
+use Rattle.spec_book.specs.Book.{Book, Usable, isCodeWord}
+use Rattle.spec_decoding.specs.Matrix.{matrix, cell}
+use Rattle.spec_decoding.specs.Decode.{Result, decode}
+use Rattle.spec_decoding.specs.Symmetry.{move, Moved}
+use Rattle.spec_field.proofs.Laws as L
+use Rattle.spec_word.specs.CyclicCode.{isCode}
+use Rattle.spec_word.proofs.Place.{SymbolList, list-word, turn-back, turn-on, at-same, at-lt, at-table, table-symbols}
+use Rattle.spec_word.proofs.Product.{Shifted}
+use Rattle.spec_word.proofs.Division.{divided-of}
+use Rattle.spec_word.proofs.CyclicCode.{CodeWord, n-pos, isCode-shifted}
+use Rattle.spec_decoding.proofs.Matrix.{matrix-shifted}
+use Rattle.spec_decoding.proofs.Motion.{Motion, MovedMatrix, MovedWord}
+use Rattle.spec_decoding.proofs.Decode.{MovedResult, decode-answer, decode-moved}
+
+module _ (F : FieldOps) (laws : FieldLaws F) (B : Book) (ok : Usable F B) where
+  open FieldOps F using (q, add as _⊕_, mul as _⊗_, inv)
+  open FieldLaws laws using (add-below, mul-below, mul-add, mul-zero)
+  open Book B using (n, degree, generator)
+
+  infixl 60 _⊕_
+  infixl 70 _⊗_
+  open Usable ok using (generates)
+
+  pos : 0 < n
+  pos = n-pos F laws n degree generator generates
+
+  module _ (t c : ℕ) (c-pos : 0 < c) (hc : c < q) where
+    -- to turn by t and to multiply by c
+    motion : Motion F n
+    motion = record {
+      place = λ j. (j + t) % n;
+      unplace = λ j. (j + (n - t % n)) % n;
+      place-lt = λ j l. mod-lt (j + t) pos;
+      unplace-lt = λ j l. mod-lt (j + (n - t % n)) pos;
+      unplace-place = λ j l. turn-back n t j pos ∙ mod-eq-of-lt l;
+      place-unplace = λ j l. turn-on n t j pos ∙ mod-eq-of-lt l;
+      symbol = c ⊗_;
+      unsymbol = inv c ⊗_;
+      symbol-lt = λ i l. mul-below c i;
+      unsymbol-lt = λ i l. mul-below (inv c) i;
+      unsymbol-symbol = λ i l. L.inv-mul-mul F laws c-pos hc i l;
+      symbol-unsymbol = λ i l. L.mul-inv-mul F laws c-pos hc i l;
+      symbol-zero = mul-zero c;
+      symbol-add = mul-add c;
+    }
+
+    module _ (v : List ℕ) (hv : SymbolList F n v) (v-code : T (isCodeWord F B (at n v))) where
+      abbrev Moves : List ℕ → List ℕ → Type 0
+      Moves w w′ = MovedWord motion (at n v) (at n w) (at n w′)
+
+      code : CodeWord F laws n degree generator generates (at n v)
+      unfolding isCode
+      code = divided-of F degree generator laws n (at n v) v-code
+
+      -- the places below n stand for all
+      shifted : (w w′ : List ℕ) → Moves w w′ → Shifted F t c (at n v) (at n w) (at n w′)
+      unfolding motion
+      shifted w w′ m j =
+          at-same n w′ (j + t) ((j % n + t) % n) (sym same) ∙ m (j % n) (mod-lt j pos)
+          ∙ ap₂ (λ (x y : ℕ). c ⊗ x ⊕ y) (at-same n w (j % n) j (mod-mod j n)) (at-same n v ((j % n + t) % n) (j + t) same)
+        where
+          same : (j % n + t) % n % n ≡ (j + t) % n
+          same = mod-mod (j % n + t) n ∙ mod-add-mod j n t
+
+      codes : (w w′ : List ℕ) → SymbolList F n w → SymbolList F n w′ → Moves w w′ → isCodeWord F B (at n w′) ≡ isCodeWord F B (at n w)
+      codes w w′ hw hw′ m = isCode-shifted F laws n degree generator generates t c-pos hc (list-word hv) code (list-word hw) (list-word hw′) (shifted w w′ m)
+
+      makes : (w w′ : List ℕ) → SymbolList F n w → SymbolList F n w′ → Moves w w′
+          → MovedMatrix motion (cell F B (matrix F B (at n w))) (cell F B (matrix F B (at n w′)))
+      unfolding motion
+      makes w w′ hw hw′ m =
+          matrix-shifted F laws B ok t c-pos hc (list-word hv) code (list-word hw′) (shifted w w′ m) (λ l h j. 1) (λ l h j. 1) (λ l h j. refl)
+
+      -- ---- the moved word itself
+
+      pub move-symbols : (w : List ℕ) → SymbolList F n (move F n t c v w)
+      unfolding move plus scale
+      move-symbols w = table-symbols F n _ pos (λ j l. add-below (at n scaled j) (at n v j) (scaled-symbols .symbols j) (hv .symbols j))
+        where
+          scaled : List ℕ
+          scaled = scale F n c (turn n t w)
+
+          scaled-symbols : SymbolList F n scaled
+          scaled-symbols = table-symbols F n _ pos (λ j l. mul-below c (at n (turn n t w) j))
+
+      move-moves : (w : List ℕ) → Moves w (move F n t c v w)
+      unfolding motion move plus scale turn
+      move-moves w j l =
+          at-table n (λ k. at n (scale F n c (turn n t w)) k ⊕ at n v k) (mod-lt (j + t) pos)
+          ∙ ap (_⊕ at n v ((j + t) % n))
+          (at-table n (λ k. c ⊗ at n (turn n t w) k) (mod-lt (j + t) pos)
+          ∙ ap (c ⊗_) (at-table n (λ k. at n w (k + (n - t % n))) (mod-lt (j + t) pos) ∙ at-same n w ((j + t) % n + (n - t % n)) j (turn-back n t j pos)))
+
+      -- the places of a moved word determine it
+      moves-unique : (w a b : List ℕ) → SymbolList F n a → SymbolList F n b → Moves w a → Moves w b → a ≡ b
+      unfolding motion
+      moves-unique w a b ha hb ma mb =
+          ext-getD 0 a b (ha .exact ∙ sym (hb .exact)) (λ k l. same k (subst (λ (x : ℕ). k < x) (ha .exact) l))
+        where
+          back : ℕ → ℕ
+          back k = (k + (n - t % n)) % n
+
+          same : (k : ℕ) → k < n → getD a k 0 ≡ getD b k 0
+          same k l =
+              sym (at-lt n a l) ∙ ap (at n a) (sym (motion .place-unplace k l)) ∙ ma (back k) (mod-lt (k + (n - t % n)) pos)
+              ∙ sym (mb (back k) (mod-lt (k + (n - t % n)) pos)) ∙ ap (at n b) (motion .place-unplace k l) ∙ at-lt n b l
+
+      -- demand 3
+      pub symmetry : (r : List ℕ) → SymbolList F n r → Moved F B t c v (decode F B r) (decode F B (move F n t c v r))
+      unfolding motion cell
+      symmetry r hr =
+          record {
+            same-kind = result .same-kind;
+            same-rounds = result .same-rounds;
+            same-changed = result .same-changed;
+            moved-answer =
+                moves-unique (x .answer) (y .answer) (move F n t c v (x .answer)) (decode-answer F laws B pos (matrix F B) r′ hr′)
+                (move-symbols (x .answer)) (result .moved-answer) (move-moves (x .answer));
+            moved-entries = λ i j hi l.
+                ap (λ (k : ℕ). getD (y .entries) (c ⊗ i * n + k) 0) (sym (mod-mod (j + t) n)) ∙ result .moved-matrix i hi j l
+                ∙ ap (λ (k : ℕ). getD (x .entries) (i * n + k) 0) (mod-eq-of-lt l);
+          }
+        where
+          r′ : List ℕ
+          r′ = move F n t c v r
+
+          hr′ : SymbolList F n r′
+          hr′ = move-symbols r
+
+          x : Result
+          x = decode F B r
+
+          y : Result
+          y = decode F B r′
+
+          result : MovedResult F laws B pos motion (at n v) x y
+          result = decode-moved F laws B pos motion (at n v) (matrix F B) (matrix F B) makes codes r r′ hr hr′ (move-moves r)

@@ -1,0 +1,9 @@
+pub mod Xor
+pub mod ShiftAdd
+pub mod Laws
+pub mod Computed
+pub mod First
+pub mod Power
+pub mod Gf
+pub mod Doubling
+pub mod Refusals

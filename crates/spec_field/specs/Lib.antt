@@ -1,0 +1,4 @@
+pub mod Field
+pub mod Symbols
+pub mod Answer
+pub mod Operations

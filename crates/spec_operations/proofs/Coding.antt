@@ -1,0 +1,183 @@
+-- The refusal numbers of code and read, what the number 0 tells, and that each operation accepts what the other writes and gives back what it was given.
+-- Assumes nothing.
+use mathlib.Core.Path.{_≡_, sym, ap, ap₂, _∙_, subst}
+use mathlib.Core.Bool.{Bool, true, false}
+use mathlib.Core.List.{List}
+use Prim.Native.Nat.{ℕ, zero, suc, pred, _%_, _<_}
+use native.Mathlib.Decide.{decLt}
+use native.Mathlib.Omega.{arith}
+use lib.Dec.{T, eqb, eqb→eq, ltb, lt→ltb}
+use lib.ListN.{length, getD, List·getD-eq-default}
+use Rattle.spec_range.specs.Table.{table}
+use Rattle.spec_range.proofs.Tests.{eq→eqb, cond-true}
+use Rattle.spec_range.proofs.Table.{table-length, table-at, all-of}
+use Rattle.spec_field.specs.Field.{FieldOps, FieldLaws}
+use Rattle.spec_field.specs.Answer.{Answer, orElse}
+use Rattle.spec_field.proofs.Laws.{zero-below}
+use Rattle.spec_field.proofs.Refusals.{found-first, found-next, neither}
+use Rattle.spec_word.specs.Word.{at, product}
+use Rattle.spec_word.specs.Division.{before, coefficients, quotient}
+use Rattle.spec_word.proofs.Sums.{Symbols}
+use Rattle.spec_word.proofs.Product.{product-below}
+use Rattle.spec_word.proofs.Division.{remainder-below}
+use Rattle.spec_word.proofs.Quotient.{quotientAt, quotient-at}
+use Rattle.spec_book.specs.Book.{Book, messageLength, isCodeWord}
+use Rattle.spec_book.specs.Layout.{width, fieldOf, bookOf}
+use Rattle.spec_book.specs.Conditions.{unless, refusal, codeWordRefusal, inputOk, inputRefusal}
+use Rattle.spec_book.proofs.Sound.{passed}
+use Rattle.spec_book.proofs.Known.{book-laws, book-accepted}
+use Rattle.spec_book.proofs.Inputs.{AcceptedInput, accepted-input}
+use Rattle.spec_coding.specs.Coder.{encode, message}
+use Rattle.spec_coding.proofs.Coder.{encode-code, message-encode, encode-message}
+use Rattle.spec_operations.specs.Wrote.{Wrote}
+use Rattle.spec_operations.specs.Coding.{codeInputRefusal, codeRefusal, coded, readInputRefusal, readWordRefusal, readRefusal, messageOf}
+
+-- ---- a whole call, where n was found for the book
+
+module _ (bytes input : List ℕ) (room : ℕ) {n : ℕ} (e : n ≡ refusal width bytes) where
+  pub code-refused : (n ≡ 0 → ⊥) → n ≡ codeRefusal bytes input room
+  unfolding codeRefusal
+  code-refused h = found-first n (refusal width bytes) _ e h
+
+  pub read-refused : (n ≡ 0 → ⊥) → n ≡ readRefusal bytes input room
+  unfolding readRefusal
+  read-refused h = found-first n (refusal width bytes) _ e h
+
+  module _ (z : n ≡ 0) {new old out : List ℕ} {a : Answer} where
+    pub code-goes-on : Wrote (codeInputRefusal bytes input room) new old a out → Wrote (codeRefusal bytes input room) new old a out
+    unfolding codeRefusal
+    code-goes-on h =
+        subst (λ (k : ℕ). Wrote k new old a out) (found-next n (refusal width bytes) (codeInputRefusal bytes input room) e z) h
+
+    pub read-goes-on : Wrote (readWordRefusal bytes input room) new old a out → Wrote (readRefusal bytes input room) new old a out
+    unfolding readRefusal
+    read-goes-on h =
+        subst (λ (k : ℕ). Wrote k new old a out) (found-next n (refusal width bytes) (readWordRefusal bytes input room) e z) h
+
+-- ---- the number of read once the book is open, where n was found for the sizes and the symbols
+
+module _ (bytes word : List ℕ) (room : ℕ) {n : ℕ} (e : n ≡ readInputRefusal bytes word room) where
+  pub word-refused : (n ≡ 0 → ⊥) → n ≡ readWordRefusal bytes word room
+  unfolding readWordRefusal
+  word-refused h = found-first n (readInputRefusal bytes word room) _ e h
+
+  module _ (z : n ≡ 0) {t : Bool} (tested : t ≡ isCodeWord (fieldOf bytes) (bookOf width bytes) (at (bookOf width bytes .n) word)) where
+    last : unless t 12 0 ≡ readWordRefusal bytes word room
+    unfolding readWordRefusal codeWordRefusal
+    last = ap (λ (t : Bool). unless t 12 0) tested ∙ found-next n (readInputRefusal bytes word room) (codeWordRefusal (fieldOf bytes) (bookOf width bytes) word) e z
+
+    pub no-code-word : {m : ℕ} → t ≡ false → m ≡ 12 → m ≡ readWordRefusal bytes word room
+    no-code-word f k = k ∙ ap (λ (t : Bool). unless t 12 0) (sym f) ∙ last
+
+    pub code-word : t ≡ true → readWordRefusal bytes word room ≡ 0
+    code-word f = sym last ∙ ap (λ (t : Bool). unless t 12 0) f
+
+-- ---- an input as it should be: its symbols, and that it is not refused
+
+-- an accepted input has symbols at its places, and 0 past them
+input-symbols : (F : FieldOps) → FieldLaws F → {fits exact : Bool} {input : List ℕ} → AcceptedInput (F .q) fits exact input → Symbols F (coefficients input)
+input-symbols F laws {input = input} h j = go (decLt j (length input))
+  where
+    go : Dec (j < length input) → getD input j 0 < F .q
+    go (yes l) = h .symbol j l
+    go (no l) = subst (λ (x : ℕ). x < F .q) (sym (List·getD-eq-default input 0 (omega arith))) (zero-below F laws)
+
+input-accepted : {q : ℕ} {fits exact : Bool} {input : List ℕ} → AcceptedInput q fits exact input → inputRefusal q fits exact input ≡ 0
+unfolding inputRefusal inputOk
+input-accepted {q} {fits} {exact} {input} h =
+    cond-true fits _ _ (h .size) ∙ cond-true exact _ _ (h .sizes)
+    ∙ cond-true (inputOk q input) 0 11 (all-of (length input) (λ j. ltb (getD input j 0) q) (λ j l. lt→ltb (getD input j 0) q (h .symbol j l)))
+
+-- a table of symbols as an input
+table-input : (q n : ℕ) (f : ℕ → ℕ) {exact : Bool} → T exact → ((j : ℕ) → f j < q) → AcceptedInput q (eqb (length (table n f)) n) exact (table n f)
+table-input q n f t h =
+    record {
+      size = eq→eqb (table-length n f);
+      sizes = t;
+      symbol = λ j l. subst (λ (x : ℕ). x < q) (sym (table-at n f (subst (λ (k : ℕ). j < k) (table-length n f) l))) (h j);
+    }
+
+-- the quotient's coefficients are symbols
+quotient-below : (F : FieldOps) → FieldLaws F → (d : ℕ) (g : ℕ → ℕ) (k : ℕ) (w : ℕ → ℕ) → Symbols F w → Symbols F (quotientAt F d g k w)
+unfolding quotientAt before
+quotient-below F laws d g zero w h i = zero-below F laws
+quotient-below F laws d g (suc k) w h zero = remainder-below F d g laws k (λ j. w (suc j)) (λ j. h (suc j)) (pred d)
+quotient-below F laws d g (suc k) w h (suc i) = quotient-below F laws d g k (λ j. w (suc j)) (λ j. h (suc j)) i
+
+module _ (bytes : List ℕ) where
+  abbrev F : FieldOps
+  F = fieldOf bytes
+
+  abbrev B : Book
+  B = bookOf width bytes
+
+  -- ---- the number 0
+
+  module _ (input : List ℕ) (room : ℕ) where
+    code-accepted : codeRefusal bytes input room ≡ 0
+        → (refusal width bytes ≡ 0) × AcceptedInput (F .q) (eqb (length input) (messageLength B)) (eqb room (B .n)) input
+    unfolding codeRefusal codeInputRefusal
+    code-accepted z = let both = neither (refusal width bytes) _ z in (both .0, accepted-input _ _ _ input (both .1))
+
+    read-accepted : readRefusal bytes input room ≡ 0
+        → (refusal width bytes ≡ 0) × AcceptedInput (F .q) (eqb (length input) (B .n)) (eqb room (messageLength B)) input × T (isCodeWord F B (at (B .n) input))
+    unfolding readRefusal readWordRefusal readInputRefusal codeWordRefusal
+    read-accepted z =
+        let book = neither (refusal width bytes) _ z in
+        let word = neither (readInputRefusal bytes input room) _ (book .1) in
+        (book .0, accepted-input _ _ _ input (word .0), passed (isCodeWord F B (at (B .n) input)) 11 0 (word .1) .0)
+
+  -- ---- a message that is not refused
+
+  module _ (f : List ℕ) (room : ℕ) (z : codeRefusal bytes f room ≡ 0) where
+    abbrev ok : refusal width bytes ≡ 0
+    ok = code-accepted f room z .0
+
+    size : length f ≡ messageLength B
+    size = eqb→eq (length f) (messageLength B) (code-accepted f room z .1 .size)
+
+    symbols : Symbols F (coefficients f)
+    symbols = input-symbols F (book-laws bytes ok) (code-accepted f room z .1)
+
+    pub coded-accepted : (back : ℕ) → back ≡ messageLength B → readRefusal bytes (coded bytes f) back ≡ 0
+    unfolding readRefusal readWordRefusal readInputRefusal codeWordRefusal encode
+    coded-accepted back e =
+        ap₂ orElse ok
+        (ap₂ orElse
+        (input-accepted (table-input (F .q) (B .n) (product F (B .n) (coefficients f) (λ j. B .generator (j % B .n))) (eq→eqb e)
+        (product-below F (book-laws bytes ok) (B .n) (coefficients f) (λ j. B .generator (j % B .n)))))
+        (cond-true (isCodeWord F B (at (B .n) (coded bytes f))) 0 12 (encode-code F (book-laws bytes ok) B (book-accepted bytes ok) f size symbols)))
+
+    pub coded-read : messageOf bytes (coded bytes f) ≡ f
+    coded-read = message-encode F (book-laws bytes ok) B (book-accepted bytes ok) f size symbols
+
+  -- ---- a code word that is not refused
+
+  module _ (w : List ℕ) (room : ℕ) (z : readRefusal bytes w room ≡ 0) where
+    abbrev sound : refusal width bytes ≡ 0
+    sound = read-accepted w room z .0
+
+    places : Symbols F (at (B .n) w)
+    unfolding at
+    places j = input-symbols F (book-laws bytes sound) (read-accepted w room z .1) (j % B .n)
+
+    pub message-accepted : (back : ℕ) → back ≡ B .n → codeRefusal bytes (messageOf bytes w) back ≡ 0
+    unfolding codeRefusal codeInputRefusal message
+    message-accepted back e =
+        ap₂ orElse sound (input-accepted (table-input (F .q) (messageLength B) (coefficients Q) (eq→eqb e) (λ j.
+        subst (λ (x : ℕ). x < F .q) (sym (quotient-at F (B .degree) (B .generator) laws pos (B .n) (at (B .n) w) j))
+        (quotient-below F laws (B .degree) (B .generator) (B .n) (at (B .n) w) places j))))
+      where
+        Q : List ℕ
+        Q = quotient F (B .degree) (B .generator) (B .n) (at (B .n) w)
+
+        laws : FieldLaws F
+        laws = book-laws bytes sound
+
+        pos : 0 < B .degree
+        pos = book-accepted bytes sound .generates .degree-pos
+
+    pub message-coded : coded bytes (messageOf bytes w) ≡ w
+    message-coded =
+        encode-message F (book-laws bytes sound) B (book-accepted bytes sound) w
+        (record { exact = eqb→eq (length w) (B .n) (read-accepted w room z .1 .size); symbols = places }) (read-accepted w room z .2)

@@ -1,0 +1,4 @@
+pub mod Wrote
+pub mod Coding
+pub mod Trips
+pub mod Packed

@@ -1,0 +1,33 @@
+-- The bytes of a packed result are the refusal number and the values: what a caller reads off it by shifts and masks.
+-- Assumes nothing.
+use mathlib.Core.Path.{_≡_}
+use Prim.Native.Nat.{ℕ, _/_, _%_, _<_}
+use mathlib.Core.List.{[], _∷_}
+use native.Mathlib.Omega.{arith}
+use Rattle.spec_field.specs.Answer.{Answer, done, refused}
+use Rattle.spec_operations.specs.Packed.{packed}
+
+-- byte 0, 1, 2 and 3 of a packed answer
+pub record Bytes (a : Answer) (b₀ b₁ b₂ b₃ : ℕ) : Type 0 where
+  pub number : packed a % 256 ≡ b₀
+  pub first : packed a / 256 % 256 ≡ b₁
+  pub second : packed a / 65536 % 256 ≡ b₂
+  pub third : packed a / 16777216 % 256 ≡ b₃
+  pub small : packed a < 4294967296
+
+-- a refusal has its number and no values
+pub refused-bytes : (number : ℕ) → number < 256 → Bytes (refused number) number 0 0 0
+refused-bytes number h = record { number = omega arith; first = omega arith; second = omega arith; third = omega arith; small = omega arith }
+
+-- check: the count of dual words
+pub checked-bytes : (count : ℕ) → count < 256 → Bytes (done (count ∷ [])) 0 count 0 0
+checked-bytes count h = record { number = omega arith; first = omega arith; second = omega arith; third = omega arith; small = omega arith }
+
+-- an operation that only writes
+pub written-bytes : Bytes (done []) 0 0 0 0
+written-bytes = record { number = omega arith; first = omega arith; second = omega arith; third = omega arith; small = omega arith }
+
+-- decode: changed, rounds and the letter
+pub decoded-bytes : (changed rounds letter : ℕ) → changed < 256 → rounds < 256 → letter < 256 → Bytes (done (changed ∷ rounds ∷ letter ∷ [])) 0 changed rounds letter
+decoded-bytes changed rounds letter c r l =
+    record { number = omega arith; first = omega arith; second = omega arith; third = omega arith; small = omega arith }

@@ -1,0 +1,7 @@
+pub mod Wrote
+pub mod Check
+pub mod Coding
+pub mod Decoding
+pub mod Packed
+pub mod Twice
+pub mod Trips

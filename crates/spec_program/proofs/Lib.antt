@@ -1,0 +1,7 @@
+pub mod Blocks
+pub mod Opened
+pub mod Joining
+pub mod Opening
+pub mod Answering
+pub mod Machine
+pub mod Example

@@ -1,0 +1,4 @@
+pub mod Line
+pub mod Output
+pub mod Machine
+pub mod Example

@@ -1,3 +1,0 @@
-pub mod Window
-pub mod Rows
-pub mod Tables

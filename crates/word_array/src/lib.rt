@@ -1,0 +1,81 @@
+// Words of n symbols, held by value and zero from place n on. The contracts cite the definitions of specs/.
+ghost use mathlib.Core.Path.{_≡_};
+ghost use Prim.Native.Nat.{_+_, _≤_};
+ghost use lib.Bits.{bitXor};
+ghost use lib.Dec.{eqb};
+ghost use lib.ListN.{length};
+ghost use Rattle.spec_range.specs.Fold.{all};
+ghost use Rattle.spec_range.specs.Table.{table, padded};
+ghost use Rattle.spec_word.specs.Word.{distance};
+ghost use Rattle.word_array.specs.Stored.{place};
+use sizes::WIDTH;
+use sizes::Word;
+
+// The n bytes of a slice that start at `start`, as a word.
+pub fn load(s: &[u8], start: usize, n: usize) -> Word
+    requires { ⌜ (n ≤ 63) × (start + n ≤ length (now s)) ⌝ }
+    ensures { λ r. ⌜ r ≡ padded 63 n (λ j. place (now (s .entry)) (start + j)) ⌝ }
+{
+    let mut w = [0u8; WIDTH];
+    let mut j = 0;
+    while j < n {
+        w[j] = s[start + j];
+        j += 1;
+    }
+    w
+}
+
+// Writes the first places of a word, however it is held, into a slice.
+pub fn store(w: &[u8], out: &mut [u8])
+    requires { ⌜ length (now out) ≤ length (now w) ⌝ }
+    ensures { λ _. ⌜ now (out .exit) ≡ table (length (now (out .entry))) (place (now (w .entry))) ⌝ }
+{
+    let n = out.len();
+    let mut j = 0;
+    while j < n {
+        out[j] = w[j];
+        j += 1;
+    }
+}
+
+// The sum of two words.
+pub fn add(n: usize, a: Word, b: Word) -> Word
+    requires { ⌜ n ≤ 63 ⌝ }
+    ensures { λ r. ⌜ r ≡ padded 63 n (λ j. bitXor (place a j) (place b j)) ⌝ }
+{
+    let mut w = [0u8; WIDTH];
+    let mut j = 0;
+    while j < n {
+        w[j] = a[j] ^ b[j];
+        j += 1;
+    }
+    w
+}
+
+// Whether the places below n are all zero: those that are not are counted, with no branch.
+pub fn is_zero(n: usize, w: &[u8]) -> bool
+    requires { ⌜ (n ≤ 128) × (n ≤ length (now w)) ⌝ }
+    ensures { λ r. ⌜ r ≡ all n (λ j. eqb (place (now (w .entry)) j) 0) ⌝ }
+{
+    let mut found: u8 = 0;
+    let mut j = 0;
+    while j < n {
+        found += (w[j] != 0) as u8;
+        j += 1;
+    }
+    found == 0
+}
+
+// The count of places where two words differ, in a byte, which is wide enough and makes the widest vector steps.
+pub fn distance(n: usize, a: Word, b: Word) -> usize
+    requires { ⌜ n ≤ 63 ⌝ }
+    ensures { λ r. ⌜ (r ≡ distance n (place a) (place b)) × (r ≤ n) ⌝ }
+{
+    let mut count: u8 = 0;
+    let mut j = 0;
+    while j < n {
+        count += (a[j] != b[j]) as u8;
+        j += 1;
+    }
+    count as usize
+}

@@ -1,0 +1,286 @@
+-- The division in place as the loop has it with i coefficients left: the places below i are as they were, and the d places from i on hold the remainder of
+-- the coefficients above, each of which gave the quotient a place.
+-- Assumes nothing.
+use mathlib.Core.Path.{_≡_, refl, sym, ap, ap₂, _∙_, fun-ext, subst}
+use mathlib.Core.Bool.{Bool, true, false, cond, _&&_, _||_}
+use mathlib.Core.Logic.{_≢_, ⊎-elim}
+use mathlib.Core.List.{List}
+use Prim.Native.Nat.{ℕ, zero, suc, pred, _+_, _-_, _*_, _^_, _≤_, _<_, zero-le}
+use native.Mathlib.Nat.{not-suc-le-zero, le-refl, lt-irrefl, le-of-suc-le-suc, eq-or-lt-of-le}
+use native.Mathlib.Numerals.{add-one}
+use native.Mathlib.Decide.{decLt, ℕ-discrete}
+use native.Mathlib.Omega.{arith}
+use borrow.Author.Tests.{eq-eqb, ne-eqb}
+use lib.Bits.{bitXor}
+use lib.Dec.{eqb}
+use lib.ListN.{length, set, replicate, length-set, length-replicate}
+use lib.Seq.{getD-set-same, getD-set-other}
+use Rattle.spec_range.specs.Fold.{all}
+use Rattle.spec_range.specs.Table.{padded}
+use Rattle.spec_range.proofs.Fold.{fold-cong}
+use Rattle.spec_range.proofs.Loop.{held-padded, zero-at}
+use Rattle.spec_field.specs.Field.{FieldOps, FieldLaws}
+use Rattle.spec_field.specs.Symbols.{gf}
+use Rattle.spec_field.specs.Symbols as symbols
+use Rattle.spec_field.proofs.Laws.{zero-below, zero-add}
+use Rattle.spec_field.proofs.Gf.{gf-laws}
+use Rattle.spec_word.specs.Division.{before, reduce, divides}
+use Rattle.spec_word.specs.CyclicCode.{unity}
+use Rattle.spec_word.proofs.Division.{remainderAt, remainder-at, remainder-cong}
+use Rattle.spec_word.proofs.Quotient.{prefix-below, quotientAt, quotient-at, quotient-cong, times, times-extend, division, quotient-above}
+use Rattle.word_array.specs.Stored.{place, Sizes, Stored}
+use Rattle.word_array.proofs.Filled.{read-padded}
+use Rattle.word_table.specs.Multiples.{entry, wordOf, Remains}
+use Rattle.word_divide.specs.Window.{Dividend, AddedAt, DividedBy}
+
+-- ---- a row added from place i on
+
+pub added-none : (t : List ℕ) (from i : ℕ) (v : List ℕ) → AddedAt t from i 0 v v
+added-none t from i v = record { long = refl; low = λ k l. refl; added = λ j l. absurd (not-suc-le-zero l); high = λ k l. refl }
+
+pub added-more : {t : List ℕ} {from i j : ℕ} {v₀ v : List ℕ} → i + j < length v → AddedAt t from i j v₀ v
+    → AddedAt t from i (j + 1) v₀ (set v (i + j) (bitXor (place v (i + j)) (place t (from + j))))
+added-more {t} {from} {i} {j} {v₀} {v} l h =
+    record {
+      long = length-set v (i + j) x ∙ h .long;
+      low = λ k b. getD-set-other v (i + j) k x 0 (omega arith) ∙ h .low k b;
+      added = λ m b.
+          let c : m ≤ j = omega arith in
+          ⊎-elim
+          (λ e. subst (λ (m : ℕ). place (set v (i + j) x) (i + m) ≡ bitXor (place v₀ (i + m)) (place t (from + m))) (sym e) here)
+          (λ b. getD-set-other v (i + j) (i + m) x 0 (omega arith) ∙ h .added m b) (eq-or-lt-of-le c);
+      high = λ k b. getD-set-other v (i + j) k x 0 (omega arith) ∙ h .high k (omega arith);
+    }
+  where
+    x : ℕ
+    x = bitXor (place v (i + j)) (place t (from + j))
+
+    here : place (set v (i + j) x) (i + j) ≡ bitXor (place v₀ (i + j)) (place t (from + j))
+    here = getD-set-same v (i + j) x 0 l ∙ ap (λ (y : ℕ). bitXor y (place t (from + j))) (h .high (i + j) (le-refl (i + j)))
+
+-- ---- the remainder of the coefficients from place i on, of k
+
+module _ (F : FieldOps) (d : ℕ) (g : ℕ → ℕ) where
+  pub above : ℕ → (ℕ → ℕ) → ℕ → ℕ → ℕ
+  above k w i = remainderAt F d g (k - i) (λ j. w (i + j))
+
+  above-same : (k : ℕ) (w : ℕ → ℕ) (i m : ℕ) (u : ℕ → ℕ) → k - i ≡ m → ((j : ℕ) → w (i + j) ≡ u j) → (j : ℕ) → above k w i j ≡ remainderAt F d g m u j
+  unfolding above
+  above-same k w i m u e h j = ap₂ (λ (m : ℕ) (u : ℕ → ℕ). remainderAt F d g m u j) e (fun-ext h)
+
+  above-all : (k : ℕ) (w : ℕ → ℕ) (j : ℕ) → above k w 0 j ≡ remainderAt F d g k w j
+  above-all k w = above-same k w 0 k w (omega arith) (λ j. ap w (omega arith))
+
+  above-step : (k : ℕ) (w : ℕ → ℕ) (i : ℕ) → 0 < i → i ≤ k → (j : ℕ) → reduce F d g (above k w i) (w (i - 1)) j ≡ above k w (i - 1) j
+  unfolding above remainderAt before
+  above-step k w i l h j = sym (above-same k w (i - 1) (suc (k - i)) (before (w (i - 1)) (λ j. w (i + j))) (omega arith) same j)
+    where
+      same : (j : ℕ) → w (i - 1 + j) ≡ before (w (i - 1)) (λ j. w (i + j)) j
+      same zero = ap w (omega arith)
+      same (suc j) = ap w (omega arith)
+
+  -- the top coefficient of the remainder of those above i is the quotient's at i
+  above-top : (k : ℕ) (w : ℕ → ℕ) (i : ℕ) → i < k → above k w (suc i) (pred d) ≡ quotientAt F d g k w i
+  unfolding above quotientAt before
+  above-top zero w i l = absurd (not-suc-le-zero l)
+  above-top (suc k) w zero l = above-same (suc k) w 1 k (λ j. w (suc j)) (omega arith) (λ j. ap w (omega arith)) (pred d)
+  above-top (suc k) w (suc i) l =
+      above-same (suc k) w (suc (suc i)) (k - suc i) (λ j. w (suc (suc i + j))) (omega arith) (λ j. ap w (omega arith)) (pred d)
+      ∙ above-top k (λ j. w (suc j)) i (le-of-suc-le-suc l)
+
+  -- d coefficients are their own remainder
+  own-remainder : FieldLaws F → 0 < d → (w : ℕ → ℕ) (j : ℕ) → j < d → remainderAt F d g d w j ≡ w j
+  unfolding times
+  own-remainder laws pos w j b =
+      sym (zero-add F laws _)
+      ∙ ap (λ (x : ℕ). F .add x (remainderAt F d g d w j)) (sym (times-extend F d g laws pos 0 d _ zero-le none j))
+      ∙ sym (division F d g laws pos d w j) ∙ prefix-below d w j b
+    where
+      none : (u : ℕ) → 0 ≤ u → quotientAt F d g d w u ≡ 0
+      none u l = quotient-above F d g laws pos d w u (λ j a c. absurd (not-suc-le-zero {n = 0} (omega arith)))
+
+  above-start : FieldLaws F → 0 < d → (k : ℕ) (w : ℕ → ℕ) → d ≤ k → (j : ℕ) → j < d → above k w (k - d) j ≡ w (k - d + j)
+  unfolding above
+  above-start laws pos k w l j b =
+      ap (λ (m : ℕ). remainderAt F d g m (λ j. w (k - d + j)) j) (omega arith) ∙ own-remainder laws pos (λ j. w (k - d + j)) j b
+
+-- ---- the loop
+
+-- of v₀'s k coefficients i are left; q has the quotient's places from i on
+pub record Window (p n d k : ℕ) (t v₀ : List ℕ) (i : ℕ) (q v : List ℕ) : Type 0 where
+  pub within : i + d ≤ k
+  pub long : length v ≡ 128
+  pub symbols : Stored p (i + d) v
+  pub low : (j : ℕ) → j < i → place v j ≡ place v₀ j
+  pub rest : (j : ℕ) → j < d → place v (i + j) ≡ above (gf p) d (wordOf n t) k (place v₀) i j
+  pub room : length q ≡ 64
+  pub quotient : (j : ℕ) → i ≤ j → j < k - d → place q j ≡ quotientAt (gf p) d (wordOf n t) k (place v₀) j
+
+module _ {p n d k : ℕ} {t v₀ : List ℕ} (ok : Dividend p n d k t v₀) where
+  open Dividend ok using (sizes, degree-pos, degree-lt, k-low, k-high, multiples)
+
+  laws : FieldLaws (gf p)
+  laws = gf-laws p (sizes .p-low) (sizes .p-high)
+
+  pub window-start : Window p n d k t v₀ (k - d) (replicate 64 0) v₀
+  window-start =
+      record {
+        within = omega arith;
+        long = ok .long;
+        symbols = record { symbol = λ j b. ok .symbols .symbol j (omega arith) };
+        low = λ j b. refl;
+        rest = λ j b. sym (above-start (gf p) d (wordOf n t) laws degree-pos k (place v₀) k-low j b);
+        room = length-replicate {A = ℕ} 64 0;
+        quotient = λ j a b. absurd (lt-irrefl j (omega arith));
+      }
+
+  module _ {i : ℕ} {q v : List ℕ} (h : Window p n d k t v₀ i q v) where
+    pub window-end : i ≤ 0 → DividedBy p k d (wordOf n t) (place v₀) q v
+    window-end l =
+        let e : i ≡ 0 = omega arith in
+        record {
+          remains = record {
+            places = λ j b.
+                ap (place v) (omega arith) ∙ h .rest j b ∙ ap (λ (i : ℕ). above (gf p) d (wordOf n t) k (place v₀) i j) e
+                ∙ above-all (gf p) d (wordOf n t) k (place v₀) j ∙ sym (remainder-at (gf p) d (wordOf n t) laws k (place v₀) j b);
+          };
+          places = λ j b. h .quotient j (omega arith) b ∙ sym (quotient-at (gf p) d (wordOf n t) laws degree-pos k (place v₀) j);
+          room = h .room;
+          long = h .long;
+        }
+
+    module _ (left : 0 < i) {c : ℕ} (e : c ≡ place v (i - 1 + d)) where
+      top-symbol : c < 2 ^ p
+      top-symbol = subst (λ (x : ℕ). x < 2 ^ p) (sym e) (h .symbols .symbol (i - 1 + d) (omega arith))
+
+      pub row-within : 128 * c + 64 ≤ length t
+      row-within = omega (arith, top-symbol, multiples .size)
+
+      -- the remainder so far, with the next coefficient below it
+      shifted : (j : ℕ) → j < d → place v (i - 1 + j) ≡ before (place v₀ (i - 1)) (above (gf p) d (wordOf n t) k (place v₀) i) j
+      unfolding before
+      shifted zero l = ap (place v) (omega arith) ∙ h .low (i - 1) (omega arith)
+      shifted (suc j) l = ap (place v) (omega arith) ∙ h .rest j (omega arith)
+
+      top : place v (i - 1 + d) ≡ above (gf p) d (wordOf n t) k (place v₀) i (pred d)
+      top = ap (place v) (omega arith) ∙ h .rest (pred d) (omega arith)
+
+      multiple : (j : ℕ) → j < d → entry t c j ≡ symbols.product p (above (gf p) d (wordOf n t) k (place v₀) i (pred d)) (wordOf n t j)
+      multiple j l =
+          multiples .multiple c j top-symbol (omega arith)
+          ∙ ap (λ (x : ℕ). symbols.product p x (wordOf n t j)) (e ∙ top)
+
+      reduced-at : (j : ℕ) → j < d → bitXor (place v (i - 1 + j)) (entry t c j) ≡ above (gf p) d (wordOf n t) k (place v₀) (i - 1) j
+      unfolding reduce
+      reduced-at j l =
+          ap₂ bitXor (shifted j l) (multiple j l) ∙ above-step (gf p) d (wordOf n t) k (place v₀) i left (omega (arith, h .within)) j
+
+      top-quotient : place v (i - 1 + d) ≡ quotientAt (gf p) d (wordOf n t) k (place v₀) (i - 1)
+      top-quotient =
+          top ∙ ap (λ (m : ℕ). above (gf p) d (wordOf n t) k (place v₀) m (pred d)) (omega arith)
+          ∙ above-top (gf p) d (wordOf n t) k (place v₀) (i - 1) (omega (arith, h .within))
+
+      pub window-more : {v′ : List ℕ} → AddedAt t (128 * c) (i - 1) 64 v v′
+          → Window p n d k t v₀ (i - 1) (set q (i - 1) (place v (i - 1 + d))) v′
+      window-more {v′} a =
+          record {
+            within = omega (arith, h .within);
+            long = a .long ∙ h .long;
+            symbols = record { symbol = λ j l. symbol j l (decLt j (i - 1)) };
+            low = λ j l. a .low j l ∙ h .low j (omega arith);
+            rest = λ j l. a .added j (omega (arith, sizes .n-high)) ∙ reduced-at j l;
+            room = length-set q (i - 1) _ ∙ h .room;
+            quotient = λ j b l. written j b l (ℕ-discrete j (i - 1));
+          }
+        where
+          q′ : List ℕ
+          q′ = set q (i - 1) (place v (i - 1 + d))
+
+          written : (j : ℕ) → i - 1 ≤ j → j < k - d → Dec (j ≡ i - 1) → place q′ j ≡ quotientAt (gf p) d (wordOf n t) k (place v₀) j
+          written j b l (yes r) =
+              subst (λ (j : ℕ). place q′ j ≡ quotientAt (gf p) d (wordOf n t) k (place v₀) j) (sym r)
+              (getD-set-same q (i - 1) _ 0 (omega (arith, h .room, h .within, k-high)) ∙ top-quotient)
+          written j b l (no r) = getD-set-other q (i - 1) j _ 0 r ∙ h .quotient j (omega arith) l
+
+          symbol : (j : ℕ) → j < i - 1 + d → Dec (j < i - 1) → place v′ j < 2 ^ p
+          symbol j l (yes b) = subst (λ (x : ℕ). x < 2 ^ p) (sym (a .low j b)) (h .symbols .symbol j (omega arith))
+          symbol j l (no b) =
+              let m : ℕ = j - (i - 1) in
+              let q : i - 1 + m ≡ j = omega arith in
+              subst (λ (j : ℕ). place v′ j < 2 ^ p) q
+              (subst (λ (x : ℕ). x < 2 ^ p) (sym (a .added m (omega (arith, sizes .n-high))))
+              (laws .add-below _ _ (h .symbols .symbol (i - 1 + m) (omega arith)) (multiples .symbol c m top-symbol (omega (arith, sizes .n-high)))))
+
+-- ---- an array that holds a word, and what is left of it
+
+module _ {p size k : ℕ} {w : ℕ → ℕ} {v : List ℕ} (e : v ≡ padded size k w) (l : k ≤ size) where
+  pub padded-stored : ((j : ℕ) → j < k → w j < 2 ^ p) → Stored p k v
+  padded-stored h = record { symbol = λ j b. subst (λ (x : ℕ). x < 2 ^ p) (sym (read-padded w e l b)) (h j b) }
+
+  pub padded-divided : {n d : ℕ} {g : ℕ → ℕ} {q r : List ℕ} → Sizes p n → 1 ≤ d → DividedBy p k d g (place v) q r → DividedBy p k d g w q r
+  padded-divided {d = d} {g} sizes pos h =
+      let laws = gf-laws p (sizes .p-low) (sizes .p-high) in
+      let same : (j : ℕ) → j < k → place v j ≡ w j = λ j b. read-padded w e l b in
+      record {
+        remains = record {
+          places = λ j b.
+              h .remains .places j b ∙ remainder-at (gf p) d g laws k (place v) j b
+              ∙ remainder-cong (gf p) d g laws k (place v) w same j ∙ sym (remainder-at (gf p) d g laws k w j b);
+        };
+        places = λ i b.
+            h .places i b ∙ quotient-at (gf p) d g laws pos k (place v) i ∙ quotient-cong (gf p) d g laws pos k (place v) w same i
+            ∙ sym (quotient-at (gf p) d g laws pos k w i);
+        room = h .room;
+        long = h .long;
+      }
+
+pub remains-test : {p k d : ℕ} {g w : ℕ → ℕ} {r : List ℕ} → Remains p k d g w r → all d (λ j. eqb (place r j) 0) ≡ divides (gf p) d g k w
+unfolding divides
+remains-test {d = d} h = fold-cong _&&_ true d (λ j l. ap (λ (x : ℕ). eqb x 0) (h .places j l))
+
+-- ---- x^n - 1
+
+pub unity-symbol : {p n : ℕ} → Sizes p n → (j : ℕ) → unity n j < 2 ^ p
+unfolding unity
+unity-symbol {p} {n} sizes j = go (eqb j 0 || eqb j n)
+  where
+    go : (b : Bool) → cond b 1 0 < 2 ^ p
+    go true = gf-laws p (sizes .p-low) (sizes .p-high) .one-below
+    go false = zero-below (gf p) (gf-laws p (sizes .p-low) (sizes .p-high))
+
+pub unity-padded : (size n : ℕ) → 1 ≤ n → n < size → set (set (replicate size 0) 0 1) n 1 ≡ padded size (n + 1) (unity n)
+unfolding unity
+unity-padded size n pos l =
+    held-padded
+    (record {
+      long = long;
+      at = λ k b. value k (ℕ-discrete k n) (ℕ-discrete k 0);
+      rest = λ k b. other k (omega arith) (omega arith);
+    })
+  where
+    ones : List ℕ
+    ones = set (set (replicate size 0) 0 1) n 1
+
+    long-first : length {A = ℕ} (set (replicate size 0) 0 1) ≡ size
+    long-first = length-set {A = ℕ} (replicate size 0) 0 1 ∙ length-replicate {A = ℕ} size 0
+
+    long : length ones ≡ size
+    long = length-set {A = ℕ} (set (replicate size 0) 0 1) n 1 ∙ long-first
+
+    other : (k : ℕ) → k ≢ n → k ≢ 0 → place ones k ≡ 0
+    other k a b = getD-set-other {A = ℕ} (set (replicate size 0) 0 1) n k 1 0 a ∙ getD-set-other {A = ℕ} (replicate size 0) 0 k 1 0 b ∙ zero-at size k
+
+    value : (k : ℕ) → Dec (k ≡ n) → Dec (k ≡ 0) → place ones k ≡ unity n k
+    value k (yes a) z =
+        subst (λ (k : ℕ). place ones k ≡ unity n k) (sym a)
+        (getD-set-same {A = ℕ} (set (replicate size 0) 0 1) n 1 0 (omega (arith, long-first))
+        ∙ sym (ap₂ (λ (a b : Bool). cond (a || b) 1 0) (ne-eqb n 0 (omega arith)) (eq-eqb n n refl)))
+    value k (no a) (yes z) =
+        subst (λ (k : ℕ). place ones k ≡ unity n k) (sym z)
+        (getD-set-other {A = ℕ} (set (replicate size 0) 0 1) n 0 1 0 (omega arith)
+        ∙ getD-set-same {A = ℕ} (replicate size 0) 0 1 0 (omega (arith, length-replicate {A = ℕ} size 0)))
+    value k (no a) (no z) = other k a z ∙ sym (ap₂ (λ (a b : Bool). cond (a || b) 1 0) (ne-eqb k 0 z) (ne-eqb k n a))
+
+pub unity-test : (n : ℕ) {p d : ℕ} {g : ℕ → ℕ} {r : List ℕ} → Remains p (n + 1) d g (unity n) r
+    → all d (λ j. eqb (place r j) 0) ≡ divides (gf p) d g (suc n) (unity n)
+unity-test n {p} {d} {g} h = remains-test h ∙ ap (λ (k : ℕ). divides (gf p) d g k (unity n)) (add-one n)

@@ -1,0 +1,36 @@
+-- Division in place: what it asks, its step, which adds a row of a table to a part of an array, and what it gives.
+-- Assumes nothing.
+use mathlib.Core.Path.{_≡_}
+use mathlib.Core.List.{List}
+use Prim.Native.Nat.{ℕ, _+_, _-_, _≤_, _<_}
+use lib.Bits.{bitXor}
+use lib.ListN.{length}
+use Rattle.spec_field.specs.Symbols.{gf}
+use Rattle.spec_word.specs.Division.{coefficients, quotient}
+use Rattle.word_array.specs.Stored.{place, Sizes, Stored}
+use Rattle.word_table.specs.Multiples.{Multiples, Remains}
+
+-- v has k symbols to divide, t the multiples of a word whose first d places are those of the divisor, which has degree d
+pub record Dividend (p n d k : ℕ) (t v : List ℕ) : Type 0 where
+  pub sizes : Sizes p n
+  pub degree-pos : 1 ≤ d
+  pub degree-lt : d < n
+  pub k-low : d ≤ k
+  pub k-high : k ≤ 64
+  pub symbols : Stored p k v
+  pub multiples : Multiples p n t
+  pub long : length v ≡ 128
+
+-- v is v₀ with `count` places of t, from `from` on, added to those from i on
+pub record AddedAt (t : List ℕ) (from i count : ℕ) (v₀ v : List ℕ) : Type 0 where
+  pub long : length v ≡ length v₀
+  pub low : (k : ℕ) → k < i → place v k ≡ place v₀ k
+  pub added : (j : ℕ) → j < count → place v (i + j) ≡ bitXor (place v₀ (i + j)) (place t (from + j))
+  pub high : (k : ℕ) → i + count ≤ k → place v k ≡ place v₀ k
+
+-- q, of 64 places, starts with the quotient of the k coefficients of w by g, of degree d, and r, of 128, with the remainder
+pub record DividedBy (p k d : ℕ) (g w : ℕ → ℕ) (q r : List ℕ) : Type 0 where
+  pub remains : Remains p k d g w r
+  pub places : (i : ℕ) → i < k - d → place q i ≡ coefficients (quotient (gf p) d g k w) i
+  pub room : length q ≡ 64
+  pub long : length r ≡ 128

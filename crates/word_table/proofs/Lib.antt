@@ -1,0 +1,4 @@
+pub mod Window
+pub mod Rows
+pub mod Tables
+pub mod Sums

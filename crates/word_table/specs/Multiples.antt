@@ -1,0 +1,61 @@
+-- A table of the multiples of a word of n symbols: row c, 128 places long, has c times the word's symbols, twice over. Row 1 is the word itself.
+-- Assumes nothing.
+use mathlib.Core.Path.{_≡_}
+use mathlib.Core.List.{List}
+use Prim.Native.Nat.{ℕ, _+_, _*_, _%_, _^_, _≤_, _<_}
+use lib.ListN.{length}
+use Rattle.spec_field.specs.Symbols.{gf}
+use Rattle.spec_field.specs.Symbols as symbols
+use Rattle.spec_word.specs.Word.{at, product}
+use Rattle.spec_word.specs.Division.{coefficients, remainder}
+use Rattle.word_array.specs.Stored.{place, Stored}
+
+-- d holds a word w of n symbols twice over; all its 128 places are symbols
+pub record Twofold (p n : ℕ) (w d : List ℕ) : Type 0 where
+  pub symbols : Stored p 128 d
+  pub places : (j : ℕ) → j < n + n → place d j ≡ at n w j
+
+-- the entry in row c at place j
+abbrev pub entry : List ℕ → ℕ → ℕ → ℕ
+entry t c j = place t (128 * c + j)
+
+-- the word that a table is of, as a function with the period n
+unfoldable pub wordOf : ℕ → List ℕ → ℕ → ℕ
+wordOf n t j = entry t 1 (j % n)
+
+pub record Multiples (p n : ℕ) (t : List ℕ) : Type 0 where
+  pub size : 128 * 2 ^ p ≤ length t
+  pub symbol : (c j : ℕ) → c < 2 ^ p → j < 128 → entry t c j < 2 ^ p
+  pub multiple : (c j : ℕ) → c < 2 ^ p → j < n + n → entry t c j ≡ symbols.product p c (wordOf n t j)
+
+-- the first n places of row 0 of t became zero, and those of row 1 became d's; the length is as before
+pub record Begun (n : ℕ) (d t₀ t : List ℕ) : Type 0 where
+  pub long : length t ≡ length t₀
+  pub zeros : (j : ℕ) → j < n → place t j ≡ 0
+  pub word : (j : ℕ) → j < n → entry t 1 j ≡ place d j
+
+-- row c of t has symbols only
+pub record RowStored (p c : ℕ) (t : List ℕ) : Type 0 where
+  pub symbol : (j : ℕ) → j < 128 → entry t c j < 2 ^ p
+
+-- row c of t became f's values; the places below it and above it, and the length, are as before
+pub record RowPut (c : ℕ) (f : ℕ → ℕ) (t₀ t : List ℕ) : Type 0 where
+  pub long : length t ≡ length t₀
+  pub row : (j : ℕ) → j < 128 → entry t c j ≡ f j
+  pub low : (k : ℕ) → k < 128 * c → place t k ≡ place t₀ k
+  pub high : (k : ℕ) → 128 * c + 128 ≤ k → place t k ≡ place t₀ k
+
+-- t became the table of the word w, and is as long as before
+pub record Tabled (p n : ℕ) (w t₀ t : List ℕ) : Type 0 where
+  pub long : length t ≡ length t₀
+  pub multiples : Multiples p n t
+  pub word : (j : ℕ) → wordOf n t j ≡ at n w j
+
+-- r has the product of b and f below n; all its 64 places are symbols
+pub record Multiplied (p n : ℕ) (b f : ℕ → ℕ) (r : List ℕ) : Type 0 where
+  pub symbols : Stored p 64 r
+  pub places : (j : ℕ) → j < n → place r j ≡ product (gf p) n b f j
+
+-- r starts with the remainder of the n coefficients of w by g, of degree d
+pub record Remains (p n d : ℕ) (g w : ℕ → ℕ) (r : List ℕ) : Type 0 where
+  pub places : (j : ℕ) → j < d → place r j ≡ coefficients (remainder (gf p) d g n w) j
