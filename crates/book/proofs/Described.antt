@@ -94,13 +94,14 @@ module _ (bytes : List ℕ) (c : Params) (d : Describes bytes c) where
   module _ {t : List ℕ} (h : Tabulated bytes (c .p) (c .n) t) where
     -- the test for a code word, as it is made by the table and as it is defined
     pub code-tabulated : (w : List ℕ)
-        → divides (gf (c .p)) (c .degree) (wordOf (c .n) t) (c .n) (place w) ≡ isCodeWord (fieldOf bytes) (bookOf width bytes) (at (bookOf width bytes .n) w)
+        → divides (gf (c .p)) (c .degree) (wordOf 128 (c .n) t) (c .n) (place w)
+        ≡ isCodeWord (fieldOf bytes) (bookOf width bytes) (at (bookOf width bytes .n) w)
     unfolding isCode
     code-tabulated w =
         divides-by (gf (c .p)) (c .degree) same (c .n) (place w)
         ∙ rw (d .p-is, d .n-is, d .degree-is) (code-at bytes (d .accepted) w)
       where
-        same : (i : ℕ) → i < c .degree → wordOf (c .n) t i ≡ bookOf width bytes .generator i
+        same : (i : ℕ) → i < c .degree → wordOf 128 (c .n) t i ≡ bookOf width bytes .generator i
         same i l =
             let inside : i < c .n = omega (arith, d .n-is, d .degree-is, book-accepted bytes (d .accepted) .generates .degree-lt) in
             h .word i ∙ at-lt (c .n) _ inside ∙ generator-loaded refl refl i

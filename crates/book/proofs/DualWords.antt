@@ -84,5 +84,5 @@ module _ {bytes : List ℕ} {p n : ℕ} (h : Read bytes p n) {count : ℕ} (e : 
   products-decide s f d = d ∙ ap (λ (t : Bool). t && all count (productOk p n bytes)) (sym (passed s f)) ∙ duals-test
 
 -- the table made
-pub table : {bytes t : List ℕ} {p n : ℕ} → n ≤ 63 → Tabulated bytes p n t → Table bytes p n t
+pub table : {bytes t : List ℕ} {p n : ℕ} → n ≤ 63 → Tabulated bytes p n t → Table 128 bytes p n t
 table {n = n} fits h = record { multiples = h .multiples; word = λ j k. h .word j ∙ at-lt n _ k ∙ padded-at 63 n _ fits k }

@@ -26,7 +26,7 @@ module _ {bytes g w : List ℕ} {p n : ℕ} (h : Read bytes p n) (e : g ≡ padd
   pub widened-symbols : Stored p 64 w
   widened-symbols = rw f (widened-stored p 64 n g (omega (arith, h .sized .n-high)) (generator-stored h e))
 
-  pub tabulated : {t₀ t : List ℕ} → Tabled p n w t₀ t → Tabulated bytes p n t
+  pub tabulated : {t₀ t : List ℕ} → Tabled 128 p n w t₀ t → Tabulated bytes p n t
   tabulated m =
       record {
         multiples = m .multiples;
@@ -41,7 +41,7 @@ module _ {bytes : List ℕ} {c : Params} {g t : List ℕ} (h : Gathered bytes c 
   pub gathered-degree : c .degree ≡ degreeOf (c .n) (place g)
   gathered-degree = h .degree-is ∙ sym (degree-is (h .read) (h .g-is))
 
-  pub gathered-word : (j : ℕ) → j < c .n → wordOf (c .n) t j ≡ place g j
+  pub gathered-word : (j : ℕ) → j < c .n → wordOf 128 (c .n) t j ≡ place g j
   gathered-word j l = h .table .word j ∙ ap (λ (w : List ℕ). at (c .n) w j) (sym (h .g-is)) ∙ at-lt (c .n) g l
 
   pub gathered-generator : generatorTest (c .p) (c .n) (place g) ≡ generatorOk (fieldOf bytes) (bookOf width bytes)

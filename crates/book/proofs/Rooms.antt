@@ -9,7 +9,7 @@ use native.Mathlib.Decide.{decLt}
 use native.Mathlib.Omega.{arith}
 use borrow.Author.Tests.{lt-ltb, le-ltb, ltb-true}
 use lib.Pow.{pow-mono}
-use Rattle.word_table.proofs.Tables.{few-fits, table-fits}
+use Rattle.word_table.proofs.Tables.{table-fits}
 use Rattle.spec_book.specs.Layout.{width, symbolDigits, wordLength}
 use Rattle.spec_book.specs.Conditions.{refusal}
 use Rattle.book.specs.Opened.{fewSymbols, tableRoom, MatrixSize}
@@ -20,8 +20,8 @@ unfolding tableRoom
 room-fits bytes h = go (decLt (symbolDigits bytes) 4)
   where
     go : Dec (symbolDigits bytes < 4) → 128 * 2 ^ symbolDigits bytes ≤ tableRoom bytes
-    go (yes l) = unfold tableRoom in rw (lt-ltb (symbolDigits bytes) 4 l) (few-fits (symbolDigits bytes) (omega arith))
-    go (no l) = unfold tableRoom in rw (le-ltb (symbolDigits bytes) 4 (omega arith)) (table-fits (symbolDigits bytes) h)
+    go (yes l) = unfold tableRoom in rw (lt-ltb (symbolDigits bytes) 4 l) (table-fits 128 3 (symbolDigits bytes) (omega arith))
+    go (no l) = unfold tableRoom in rw (le-ltb (symbolDigits bytes) 4 (omega arith)) (table-fits 128 6 (symbolDigits bytes) h)
 
 -- the rooms that there are, the smaller where symbols are few
 pub few-room : (bytes : List ℕ) {size : ℕ} → fewSymbols bytes ≡ true → 1024 ≡ size → tableRoom bytes ≤ size

@@ -40,8 +40,8 @@ pub record Read (bytes : List ℕ) (p n : ℕ) : Type 0 where
 
 -- t is the table of the multiples of the generator in bytes
 pub record Tabulated (bytes : List ℕ) (p n : ℕ) (t : List ℕ) : Type 0 where
-  pub multiples : Multiples p n t
-  pub word : (j : ℕ) → wordOf n t j ≡ at n (padded 63 n (λ j. place bytes (4 + j))) j
+  pub multiples : Multiples 128 p n t
+  pub word : (j : ℕ) → wordOf 128 n t j ≡ at n (padded 63 n (λ j. place bytes (4 + j))) j
 
 -- ---- the tests that the code makes of the conditions 5 and 6, each of what it asks alone
 

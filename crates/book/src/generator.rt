@@ -28,7 +28,7 @@ pub fn degree(n: usize, g: Word) -> usize
 
 // 5: g, of degree d, has leading coefficient 1, degree 1 or more, and divides x^n - 1.
 pub fn generator_ok(p: u8, n: usize, d: usize, g: Word, t: &[u8]) -> bool
-    requires { ⌜ Sizes p n × (d ≡ degreeOf n (place g)) × Multiples p n (now t) × ((j : ℕ) → j < n → wordOf n (now t) j ≡ place g j) ⌝ }
+    requires { ⌜ Sizes p n × (d ≡ degreeOf n (place g)) × Multiples 128 p n (now t) × ((j : ℕ) → j < n → wordOf 128 n (now t) j ≡ place g j) ⌝ }
     ensures { λ r. ⌜ r ≡ generatorTest p n (place g) ⌝ }
 {
     if d < 1 {

@@ -14,13 +14,14 @@ use Rattle.spec_word.proofs.Product.{product-cong, product-comm}
 use Rattle.word_array.specs.Stored.{place}
 use Rattle.word_table.specs.Multiples.{wordOf}
 use Rattle.word_table.specs.Rows.{turnedSum}
+use Rattle.word_table.proofs.Rows.{rows-apart}
 use Rattle.word_table.proofs.Tables.{wordOf-period}
 use Rattle.word_table.proofs.Sums.{product-at}
 use Rattle.spec_book.specs.Layout.{width, dualAt}
 use Rattle.book_duals.specs.Duals.{generatorWord, dualWord, dualProduct, Tested, Table}
 use Rattle.book_duals.proofs.Places.{dual-period, dual-at}
 
-module _ {bytes t : List ℕ} {p n duals l start : ℕ} (h : Tested bytes p n duals) (tab : Table bytes p n t) (b : l < duals)
+module _ {bytes t : List ℕ} {stride p n duals l start : ℕ} (h : Tested bytes p n duals) (tab : Table stride bytes p n t) (b : l < duals)
     (e : start ≡ dualAt width l + 1) where
   laws : FieldLaws (gf p)
   laws = gf-laws p (h .sizes .p-low) (h .sizes .p-high)
@@ -29,17 +30,17 @@ module _ {bytes t : List ℕ} {p n duals l start : ℕ} (h : Tested bytes p n du
   dual-symbol j k = rw e (h .symbol l j b (omega (arith, h .sizes .n-high)))
 
   -- its row is in the table
-  pub dual-row : (j : ℕ) → j < n → 128 * place bytes (start + j) + 128 ≤ length t
-  dual-row j k = omega (arith, dual-symbol j k, tab .multiples .size)
+  pub dual-row : (j : ℕ) → j < n → stride * place bytes (start + j) + stride ≤ length t
+  dual-row j k = omega (arith, rows-apart stride (dual-symbol j k), tab .multiples .size)
 
-  generates : (u : ℕ) → u < n → wordOf n t u ≡ generatorWord n bytes u
+  generates : (u : ℕ) → u < n → wordOf stride n t u ≡ generatorWord n bytes u
   unfolding generatorWord
   generates u k = let m : u % n ≡ u = mod-eq-of-lt k in tab .word u k ∙ ap (place bytes) (omega arith)
 
   -- the sum of its rows is its product with the generator
-  pub dual-product : {word : List ℕ} → word ≡ table 64 (turnedSum n n (λ u. place bytes (start + u)) t)
+  pub dual-product : {span : ℕ} {word : List ℕ} → n ≤ span → word ≡ table span (turnedSum stride n n (λ u. place bytes (start + u)) t)
       → (j : ℕ) → j < n → place word j ≡ dualProduct p n bytes l j
-  dual-product s j k =
-      product-at (h .sizes) (tab .multiples) (le-refl n) dual-symbol (dual-at bytes l e) (λ u a b. absurd (lt-irrefl u (omega arith))) s j k
-      ∙ product-comm (gf p) laws n (dualWord n bytes l) (wordOf n t) (dual-period n bytes l) (wordOf-period n t) j
+  dual-product fits s j k =
+      product-at (h .sizes) (tab .multiples) (le-refl n) dual-symbol fits (dual-at bytes l e) (λ u a b. absurd (lt-irrefl u (omega arith))) s j k
+      ∙ product-comm (gf p) laws n (dualWord n bytes l) (wordOf stride n t) (dual-period n bytes l) (wordOf-period stride n t) j
       ∙ product-cong (gf p) laws n generates (λ i. refl) j

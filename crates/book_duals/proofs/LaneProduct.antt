@@ -24,6 +24,7 @@ use Rattle.spec_word.proofs.Sums.{field-sums, additive-sum}
 use Rattle.word_array.specs.Stored.{place}
 use Rattle.word_table.specs.Multiples.{wordOf, Tabled}
 use Rattle.word_table.specs.Rows.{turned, turnedSum}
+use Rattle.word_table.proofs.Rows.{rows-apart}
 use Rattle.word_table.proofs.Sums.{turned-product}
 use Rattle.book_duals.specs.Duals.{generatorWord, dualWord, dualProduct, Tested}
 use Rattle.book_duals.specs.Lanes.{lane, lanes, Packed}
@@ -49,39 +50,39 @@ module _ {bytes : List ℕ} {p n duals : ℕ} (s : Tested bytes p n duals) (p-hi
   generator-at u d = let m : u % n ≡ u = mod-eq-of-lt d in ap (place bytes) (omega arith)
 
   -- the row of a symbol of the generator is in a table of `size` places
-  pub generator-row : {size : ℕ} → 128 * 2 ^ p ≤ size → (u : ℕ) → u < n → 128 * place bytes (4 + u) + 128 ≤ size
-  generator-row fits u d = let small : place bytes (4 + u) < 2 ^ p = s .generator u d in omega arith
+  pub generator-row : (stride : ℕ) {size : ℕ} → stride * 2 ^ p ≤ size → (u : ℕ) → u < n → stride * place bytes (4 + u) + stride ≤ size
+  generator-row stride fits u d = let small : place bytes (4 + u) < 2 ^ p = s .generator u d in omega (arith, rows-apart stride small)
 
   -- symbol i of a sum of rows
-  lane-sum : (b : ℕ → ℕ) (t : List ℕ) (i j : ℕ) → lane p i (turnedSum n n b t j) ≡ turnedSum n n b (lanes p i t) j
+  lane-sum : (stride : ℕ) (b : ℕ → ℕ) (t : List ℕ) (i j : ℕ) → lane p i (turnedSum stride n n b t j) ≡ turnedSum stride n n b (lanes p i t) j
   unfolding turnedSum
-  lane-sum b t i j =
-      additive-sum (gf p) laws (lane p i) (lane-zero p i) (lane-xor p i) n (turned n b t j)
-      ∙ fold-cong bitXor 0 n (λ u d. sym (lanes-at p i t (128 * b u + (n - u) + j)))
+  lane-sum stride b t i j =
+      additive-sum (gf p) laws (lane p i) (lane-zero p i) (lane-xor p i) n (turned stride n b t j)
+      ∙ fold-cong bitXor 0 n (λ u d. sym (lanes-at p i t (stride * b u + (n - u) + j)))
 
   -- a product with the zero word
   product-zero : (a f : ℕ → ℕ) → ((j : ℕ) → f j ≡ 0) → (m : ℕ) → product (gf p) n a f m ≡ 0
   unfolding product
   product-zero a f z m = fold-unit bitXor 0 (field-sums (gf p) laws) n _ (λ u d. ap (gf p .mul (a u)) (z (m + (n - u))) ∙ laws .mul-zero (a u))
 
-  module _ {l k : ℕ} {w word : List ℕ} (t₀ t : List ℕ) (packs : Packed p bytes l k w)
-      (tab : (i : ℕ) → i < 9 → Tabled p n (lanes p i w) (lanes p i t₀) (lanes p i t))
-      (byte : (m : ℕ) → place t m < 256) (e : word ≡ table 64 (turnedSum n n (λ u. place bytes (4 + u)) t)) (j : ℕ) (d : j < n) where
-    place-is : place word j ≡ turnedSum n n (λ u. place bytes (4 + u)) t j
-    place-is = ap (λ (v : List ℕ). place v j) e ∙ table-at 64 _ (omega (arith, s .sizes .n-high))
+  module _ {stride span l k : ℕ} {w word : List ℕ} (fits : n ≤ span) (t₀ t : List ℕ) (packs : Packed p bytes l k w)
+      (tab : (i : ℕ) → i < 9 → Tabled stride p n (lanes p i w) (lanes p i t₀) (lanes p i t))
+      (byte : (m : ℕ) → place t m < 256) (e : word ≡ table span (turnedSum stride n n (λ u. place bytes (4 + u)) t)) (j : ℕ) (d : j < n) where
+    place-is : place word j ≡ turnedSum stride n n (λ u. place bytes (4 + u)) t j
+    place-is = ap (λ (v : List ℕ). place v j) e ∙ table-at span _ (omega arith)
 
     place-byte : place word j < 256
     unfolding turnedSum
     place-byte = subst (λ (x : ℕ). x < 256) (sym place-is) (sum-byte n _ (λ u. byte _))
 
     -- symbol i of a place of the product
-    lane-is : (i : ℕ) → i < 9 → lane p i (place word j) ≡ product (gf p) n (generatorWord n bytes) (wordOf n (lanes p i t)) j
+    lane-is : (i : ℕ) → i < 9 → lane p i (place word j) ≡ product (gf p) n (generatorWord n bytes) (wordOf stride n (lanes p i t)) j
     lane-is i b =
-        ap (lane p i) place-is ∙ lane-sum (λ u. place bytes (4 + u)) t i j
+        ap (lane p i) place-is ∙ lane-sum stride (λ u. place bytes (4 + u)) t i j
         ∙ turned-product (s .sizes) (tab i b .multiples) (le-refl n) (s .generator) generator-at (λ u a c. absurd (lt-irrefl u (omega arith))) j d
 
     -- the packed words
-    word-is : (i : ℕ) → i < 9 → (m : ℕ) → wordOf n (lanes p i t) m ≡ cond (ltb i k) (dualWord n bytes (l + i) m) 0
+    word-is : (i : ℕ) → i < 9 → (m : ℕ) → wordOf stride n (lanes p i t) m ≡ cond (ltb i k) (dualWord n bytes (l + i) m) 0
     unfolding at dualWord
     word-is i b m =
         tab i b .word m ∙ lanes-word p i n w m

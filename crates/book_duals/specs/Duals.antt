@@ -49,6 +49,6 @@ pub record Tested (bytes : List ℕ) (p n duals : ℕ) : Type 0 where
   pub symbol : (l j : ℕ) → l < duals → j < 63 → bodyPlace bytes (dualAt width l) j < 2 ^ p
 
 -- t is a table of the generator's multiples
-pub record Table (bytes : List ℕ) (p n : ℕ) (t : List ℕ) : Type 0 where
-  pub multiples : Multiples p n t
-  pub word : (j : ℕ) → j < n → wordOf n t j ≡ bodyPlace bytes generatorAt j
+pub record Table (stride : ℕ) (bytes : List ℕ) (p n : ℕ) (t : List ℕ) : Type 0 where
+  pub multiples : Multiples stride p n t
+  pub word : (j : ℕ) → j < n → wordOf stride n t j ≡ bodyPlace bytes generatorAt j

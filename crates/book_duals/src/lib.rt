@@ -57,7 +57,7 @@ fn weight_at(book: &[u8], start: usize) -> u8
 
 // Whether the product of every dual word with the generator is zero. t is the table of the generator's multiples.
 pub fn products_vanish(p: u8, n: usize, book: &[u8], duals: usize, t: &[u8]) -> bool
-    requires { ⌜ Tested (now book) p n duals × Table (now book) p n (now t) ⌝ }
+    requires { ⌜ Tested (now book) p n duals × Table 128 (now book) p n (now t) ⌝ }
     ensures { λ r. ⌜ r ≡ all duals (productOk p n (now (book .entry))) ⌝ }
 {
     if sizes::few(p) {

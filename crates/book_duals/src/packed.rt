@@ -92,7 +92,7 @@ fn pack(book: &[u8], start: usize, shift: u8, out: &mut [u8; SPAN])
 fn multiples(p: u8, n: usize, w: [u8; SPAN], t: &mut [u8])
     requires { ⌜ Sizes p n × (p ≤ 3) × Stored (8 / p * p) 64 w × (128 * 2 ^ p ≤ length (now t)) ⌝ }
     ensures { λ _. ⌜ (length (now (t .exit)) ≡ length (now (t .entry)))
-        × ((i : ℕ) → i < 9 → Tabled p n (lanes p i w) (lanes p i (now (t .entry))) (lanes p i (now (t .exit)))) ⌝ }
+        × ((i : ℕ) → i < 9 → Tabled 128 p n (lanes p i w) (lanes p i (now (t .entry))) (lanes p i (now (t .exit)))) ⌝ }
 {
     let d = word_table::doubled(8 / p * p, n, w);
     let q = sizes::wide(field::order(p));
@@ -108,7 +108,7 @@ fn multiples(p: u8, n: usize, w: [u8; SPAN], t: &mut [u8])
 // Row 2c of a table: x times row c. The highest digit of each symbol is taken off, the others go one up, and the polynomial's x + 1 is added where it was set.
 fn double_row(p: u8, c: usize, t: &mut [u8])
     requires { ⌜ (1 ≤ p) × (p ≤ 3) × (1 ≤ c) × (256 * c + 128 ≤ length (now t)) ⌝ }
-    ensures { λ _. ⌜ RowPut (2 * c) (λ j. doubleAll p (entry (now (t .entry)) c j)) (now (t .entry)) (now (t .exit)) ⌝ }
+    ensures { λ _. ⌜ RowPut 128 (2 * c) (λ j. doubleAll p (entry 128 (now (t .entry)) c j)) (now (t .entry)) (now (t .exit)) ⌝ }
 {
     let ones = low_digits(p);
     let others = other_digits(p);

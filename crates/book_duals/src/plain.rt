@@ -7,7 +7,7 @@ use sizes::SPAN;
 
 // Whether all products are zero: those of all dual words are joined, and looked at once.
 pub fn products_vanish(p: u8, n: usize, book: &[u8], duals: usize, t: &[u8]) -> bool
-    requires { ⌜ Tested (now book) p n duals × Table (now book) p n (now t) ⌝ }
+    requires { ⌜ Tested (now book) p n duals × Table 128 (now book) p n (now t) ⌝ }
     ensures { λ r. ⌜ r ≡ all duals (productOk p n (now (book .entry))) ⌝ }
 {
     let mut left = [0u8; SPAN];

@@ -75,9 +75,9 @@ module _ {bytes : List ℕ} {c : Params} {t : List ℕ} (b : OpenBook bytes c t)
       word-taken z = taken (c .p) input (c .n) room (c .n - c .degree) hq h z
 
   -- the table's word is the generator
-  pub word-is : (j : ℕ) → wordOf (c .n) t j ≡ bookOf width bytes .generator (j % c .n)
+  pub word-is : (j : ℕ) → wordOf 128 (c .n) t j ≡ bookOf width bytes .generator (j % c .n)
   unfolding at
   word-is j = b .table-is .word j ∙ generator-loaded bytes c (b .describes) refl refl (j % c .n)
 
-  pub word-low : (i : ℕ) → i < c .degree → wordOf (c .n) t i ≡ bookOf width bytes .generator i
+  pub word-low : (i : ℕ) → i < c .degree → wordOf 128 (c .n) t i ≡ bookOf width bytes .generator i
   word-low i l = word-is i ∙ ap (bookOf width bytes .generator) (mod-eq-of-lt (omega (arith, degree-high bytes c (b .describes))))

@@ -48,25 +48,26 @@ module _ {bytes : List ℕ} {c : Params} {t : List ℕ} (b : OpenBook bytes c t)
 
   module _ {f : List ℕ} {size room count : ℕ} (i : Taken (c .p) f size room (c .n)) (within : count ≤ c .n) where
     -- the table has a row for each symbol from `start` on
-    pub rows : {start : ℕ} → start + count ≤ length f → Summands (c .n) count f start t
+    pub rows : {start : ℕ} → start + count ≤ length f → Summands 128 64 (c .n) count f start t
     rows {start} h =
         record {
-          n-high = sizes .n-high;
+          fits = omega (arith, sizes .n-high);
           within = within;
           room = h;
           row = λ u l. omega (arith, i .symbol (start + u) (omega (arith, i .size-is)), b .table-is .multiples .size);
         }
 
-    pub word-long : {r : List ℕ} → r ≡ table 64 (turnedSum (c .n) count (λ u. place f (0 + u)) t) → length r ≡ 64
+    pub word-long : {r : List ℕ} → r ≡ table 64 (turnedSum 128 (c .n) count (λ u. place f (0 + u)) t) → length r ≡ 64
     word-long hr = ap length hr ∙ table-length 64 _
 
-    pub word-coded : {r out : List ℕ} → count ≡ size → r ≡ table 64 (turnedSum (c .n) count (λ u. place f (0 + u)) t) → out ≡ table room (place r)
+    pub word-coded : {r out : List ℕ} → count ≡ size → r ≡ table 64 (turnedSum 128 (c .n) count (λ u. place f (0 + u)) t) → out ≡ table room (place r)
         → out ≡ coded bytes f
     unfolding encode
     word-coded {r} whole hr ho =
         ho ∙ ap (λ (k : ℕ). table k (place r)) (i .room-is)
         ∙ table-same (c .n) (λ j l.
-        message-product f sizes (b .table-is .multiples) within (le-of-eq (i .size-is ∙ sym whole)) (λ u d. i .symbol u (omega arith)) hr j l
+        message-product f sizes (omega (arith, sizes .n-high)) (b .table-is .multiples) within (le-of-eq (i .size-is ∙ sym whole))
+        (λ u d. i .symbol u (omega arith)) hr j l
         ∙ product-cong (gf (c .p)) (gf-laws (c .p) (sizes .p-low) (sizes .p-high)) (c .n) (λ u _. refl) (word-is b) j)
         ∙ rw (b .describes .p-is, b .describes .n-is)
 
@@ -76,8 +77,8 @@ module _ {bytes : List ℕ} {c : Params} {t : List ℕ} (b : OpenBook bytes c t)
     pub word-stored : {room wanted : ℕ} → Taken (c .p) word (c .n) room wanted → Stored (c .p) (c .n) v
     word-stored i = padded-stored loaded (sizes .n-high) (λ j l. i .symbol (0 + j) (omega arith))
 
-    module _ {q r : List ℕ} (h : DividedBy (c .p) (c .n) (c .degree) (wordOf (c .n) t) (place v) q r) where
-      divided : DividedBy (c .p) (c .n) (c .degree) (wordOf (c .n) t) (at (c .n) word) q r
+    module _ {q r : List ℕ} (h : DividedBy 128 64 (c .p) (c .n) (c .degree) (wordOf 128 (c .n) t) (place v) q r) where
+      divided : DividedBy 128 64 (c .p) (c .n) (c .degree) (wordOf 128 (c .n) t) (at (c .n) word) q r
       divided =
           padded-divided (loaded ∙ padded-same 63 (c .n) (λ j l. ap (place word) (omega arith) ∙ sym (at-lt (c .n) word l))) (sizes .n-high) sizes
           (degree-low bytes c (b .describes)) h

@@ -23,12 +23,12 @@ use Rattle.decode_rounds.specs.declared.End.{End}
 
 module _ (bytes : List ℕ) (c : Params) (t r : List ℕ) (d : Describes bytes c) (ht : Tabulated bytes (c .p) (c .n) t) (make : (ℕ → ℕ) → List ℕ) where
   -- the test that is made is the definition's, of the listed word
-  test : divides (gf (c .p)) (c .degree) (wordOf (c .n) t) (c .n) (place r)
+  test : divides (gf (c .p)) (c .degree) (wordOf 128 (c .n) t) (c .n) (place r)
       ≡ isCodeWord (fieldOf bytes) (bookOf width bytes) (at (bookOf width bytes .n) (listed bytes r))
   test =
       code-tabulated bytes c d ht r ∙ ap (isCodeWord (fieldOf bytes) (bookOf width bytes)) (sym (at-listed bytes (d .accepted) r))
 
-  pub decoded-clean : divides (gf (c .p)) (c .degree) (wordOf (c .n) t) (c .n) (place r) ≡ true → (m₀ : List ℕ) {m : List ℕ}
+  pub decoded-clean : divides (gf (c .p)) (c .degree) (wordOf 128 (c .n) t) (c .n) (place r) ≡ true → (m₀ : List ℕ) {m : List ℕ}
       → length m₀ ≡ 2 ^ c .p * c .n → m ≡ table (length m₀) (λ k. 0)
       → Ended bytes (decodeWith (fieldOf bytes) (bookOf width bytes) make (listed bytes r)) (record { kind = Clean; rounds = 0; word = r }) m
   unfolding decodeWith
@@ -41,7 +41,7 @@ module _ (bytes : List ℕ) (c : Params) (t r : List ℕ) (d : Describes bytes c
         matrix-is = e ∙ ap (λ (k : ℕ). table k (λ k. 0)) (rw (d .p-is, d .n-is) at size);
       })
 
-  pub decoded-rounds : divides (gf (c .p)) (c .degree) (wordOf (c .n) t) (c .n) (place r) ≡ false → {x : End} {m : List ℕ}
+  pub decoded-rounds : divides (gf (c .p)) (c .degree) (wordOf 128 (c .n) t) (c .n) (place r) ≡ false → {x : End} {m : List ℕ}
       → Ended bytes (allRounds bytes make (listed bytes r)) x m → Ended bytes (decodeWith (fieldOf bytes) (bookOf width bytes) make (listed bytes r)) x m
   unfolding decodeWith
   decoded-rounds t k = rw (sym test ∙ t) k

@@ -41,7 +41,7 @@ params-fillable bytes c d = record { accepted = d .accepted; p-is = d .p-is; n-i
 
 -- what the matrix is filled with, and of which word
 pub prepared-filling : {bytes : List ℕ} {c : Params} {t terms w m : List ℕ} → Prepared bytes c t terms → Stored (c .p) (c .n) w → length m ≡ 2 ^ c .p * c .n
-    → Filling (c .p) (c .n) (c .duals) terms w m
+    → Filling 128 (c .p) (c .n) (c .duals) terms w m
 prepared-filling {bytes} h w m = record { words = dualOf bytes; terms-of = h .terms-are; word = w; size = m }
 
 -- with the matrices that `make` makes of a word
@@ -113,7 +113,7 @@ module _ (bytes : List ℕ) (make : (ℕ → ℕ) → List ℕ) (c : Params) (w 
   round-stored = corrected-stored bytes (d .accepted) make w word m v w′ made-matrix made-corrections made-word
 
   pub round-done : {t : List ℕ} → Tabulated bytes (c .p) (c .n) t → {s : Step} (empty reached : Bool) → s ≡ stepOf empty reached → all (c .n) (λ j. eqb (place v j) 0) ≡ empty
-      → divides (gf (c .p)) (c .degree) (wordOf (c .n) t) (c .n) (place w′) ≡ reached → Stepped bytes make w (record { step = s; word = w′ }) m
+      → divides (gf (c .p)) (c .degree) (wordOf 128 (c .n) t) (c .n) (place w′) ≡ reached → Stepped bytes make w (record { step = s; word = w′ }) m
   round-done ht empty reached s p q =
       stepped bytes (d .accepted) make w word m v w′ made-matrix made-corrections made-word empty reached s
       (rw (d .n-is) at p) (sym (code-tabulated bytes c d ht w′) ∙ q)

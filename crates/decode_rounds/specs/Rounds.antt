@@ -43,12 +43,12 @@ module _ (bytes : List ℕ) where
   pub record Prepared (c : Params) (t terms : List ℕ) : Type 0 where
     pub describes : Describes bytes c
     pub table-is : Tabulated bytes (c .p) (c .n) t
-    pub terms-are : TermsOf (c .p) (c .n) (c .duals) (dualOf bytes) terms
+    pub terms-are : TermsOf 128 (c .p) (c .n) (c .duals) (dualOf bytes) terms
 
   -- a room in which the terms of its dual words are listed, or nothing yet
   pub record TermsRoom (c : Params) (terms : List ℕ) : Type 0 where
     pub long : 2240 ≤ length terms
-    pub kept : Kept (c .p) (c .n) (c .duals) (dualOf bytes) terms
+    pub kept : Kept 128 (c .p) (c .n) (c .duals) (dualOf bytes) terms
 
   module _ (make : (ℕ → ℕ) → List ℕ) where
     -- the matrix of the word in an array

@@ -76,7 +76,8 @@ module _ {bytes : List ℕ} {p n duals : ℕ} (ok : Fillable bytes p n duals) wh
       }
 
   -- and the matrix filled
-  pub filling : {terms r m : List ℕ} → TermsOf p n duals (dualOf bytes) terms → Stored p n r → length m ≡ 2 ^ p * n → Filling p n duals terms r m
+  pub filling : {stride : ℕ} {terms r m : List ℕ} → TermsOf stride p n duals (dualOf bytes) terms → Stored p n r → length m ≡ 2 ^ p * n
+      → Filling stride p n duals terms r m
   filling t r m = record { words = dualOf bytes; terms-of = t; word = r; size = m }
 
   -- what its dual words count is the matrix

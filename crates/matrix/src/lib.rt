@@ -25,8 +25,8 @@ pub fn clear(m: &mut [u16])
 
 // Fills the matrix of the word r over the dual words whose terms are listed: by marks where symbols are few, and else by scattering.
 pub fn fill(p: u8, n: usize, duals: usize, terms: &[u16], r: Word, m: &mut [u16])
-    requires { ⌜ Filling p n duals (now terms) r (now m) × (4 ≤ p → (n + 1) % 8 ≡ 0) ⌝ }
-    ensures { λ _. ⌜ ((bytes : List ℕ) → Fillable bytes p n duals → TermsOf p n duals (dualOf bytes) (now (terms .entry))
+    requires { ⌜ Filling 128 p n duals (now terms) r (now m) × (4 ≤ p → (n + 1) % 8 ≡ 0) ⌝ }
+    ensures { λ _. ⌜ ((bytes : List ℕ) → Fillable bytes p n duals → TermsOf 128 p n duals (dualOf bytes) (now (terms .entry))
         → now (m .exit) ≡ matrix (fieldOf bytes) (bookOf width bytes) (at n r)) ⌝ }
 {
     if sizes::few(p) {

@@ -3,7 +3,7 @@
 use mathlib.Core.Path.{_≡_, sym, ap, ap₂, _∙_, subst}
 use mathlib.Core.Bool.{Bool, not, cond, _&&_}
 use mathlib.Core.List.{List}
-use Prim.Native.Nat.{ℕ, _+_, _%_, _^_, _<_}
+use Prim.Native.Nat.{ℕ, _+_, _%_, _^_, _≤_, _<_}
 use native.Mathlib.Nat.{add-zero, mod-lt}
 use native.Mathlib.Decide.{ℕ-discrete}
 use native.Mathlib.Omega.{arith}
@@ -25,13 +25,13 @@ use Rattle.matrix_terms.specs.Terms.{term, Terms, RowOf}
 use Rattle.matrix_terms.proofs.Digits.{log-of, place-of}
 use Rattle.matrix_marks.specs.Marks.{termCounts}
 
-module _ {p n duals l : ℕ} {b : ℕ → ℕ} {terms : List ℕ} (ok : Terms p n duals terms) (row : RowOf p n l b terms) where
-  module _ {f : ℕ → ℕ} {w : List ℕ} (per : Periodic n f) (e : Multiplied p n b f w) where
+module _ {stride p n duals l : ℕ} {b : ℕ → ℕ} {terms : List ℕ} (ok : Terms stride p n duals terms) (row : RowOf stride p n l b terms) where
+  module _ {span : ℕ} {f : ℕ → ℕ} {w : List ℕ} (short : n ≤ span) (per : Periodic n f) (e : Multiplied span p n b f w) where
     below : (m : ℕ) → product (gf p) n b f m < 2 ^ p
     unfolding at
     below m =
         subst (λ (x : ℕ). x < 2 ^ p) (multiplied-at (ok .sizes) per e m)
-        (e .symbols .symbol (m % n) (omega (arith, mod-lt m (ok .sizes .n-low), ok .sizes .n-high)))
+        (e .symbols .symbol (m % n) (omega (arith, mod-lt m (ok .sizes .n-low))))
 
     -- a place counts where the product has the power k, times the place's symbol
     place-counts : (a j k : ℕ)
@@ -61,11 +61,11 @@ module _ {p n duals l : ℕ} {b : ℕ → ℕ} {terms : List ℕ} (ok : Terms p 
             ∙ sym (ap (λ (t : Bool). indicator (not t && divides)) (ne-eqb (b a) 0 z))
 
     -- the terms count what the dual word counts
-    pub terms-count : (k j : ℕ) → termCounts p (at n w) (term terms l) (place terms 0) k j ≡ dualCounts p n b f (power p k) j
+    pub terms-count : (k j : ℕ) → termCounts stride p (at n w) (term terms l) (place terms 0) k j ≡ dualCounts p n b f (power p k) j
     unfolding termCounts dualCounts
     terms-count k j =
         fold-cong _+_ 0 (place terms 0) (λ i a.
         ap₂ (λ (a c : ℕ). indicator (eqb (at n w (j + a)) (power p (k + c))))
-        (place-of (ok .sizes) (row .turns-of) i a) (log-of (ok .sizes) (row .turns-of) i a))
+        (place-of (ok .fits) (row .turns-of) i a) (log-of (ok .fits) (row .turns-of) i a))
         ∙ row .turns-of .places .folds _+_ 0 add-zero (λ a. indicator (eqb (at n w (j + a)) (power p (k + place terms (b a)))))
         ∙ fold-cong _+_ 0 n (λ a _. place-counts a j k)

@@ -5,7 +5,7 @@ use mathlib.Core.Bool.{Bool, true, false}
 use mathlib.Core.Logic.{⊎-elim}
 use mathlib.Core.List.{List}
 use Prim.Native.Nat.{ℕ, _+_, _-_, _*_, _/_, _%_, _^_, _≤_, _<_, zero-le}
-use native.Mathlib.Nat.{not-suc-le-zero, eq-or-lt-of-le, le-of-suc-le-suc, le-trans, le-of-eq, add-comm, div-add-mod'}
+use native.Mathlib.Nat.{not-suc-le-zero, eq-or-lt-of-le, le-of-suc-le-suc, le-trans, le-of-eq, add-comm, mul-add, mul-le-mul-left, div-add-mod}
 use native.Mathlib.Numerals.{add-one}
 use native.Mathlib.Decide.{decLt}
 use native.Mathlib.Omega.{arith}
@@ -20,100 +20,105 @@ use Rattle.spec_range.proofs.Count.{fold-le}
 use Rattle.spec_word.specs.Word.{at}
 use Rattle.word_array.specs.Stored.{place}
 use Rattle.word_table.specs.Multiples.{Twofold}
+use Rattle.word_table.proofs.Rows.{rows-apart}
 use Rattle.field_powers.proofs.Laws.{power-below}
 use Rattle.matrix_terms.proofs.Received.{order-le}
 use Rattle.matrix_marks.specs.Marks.{powersIn, Markable, Marked, marksOf, Summable, RowAdded, termsFrom, termCounts, Turned, Counted}
 
 -- a sum of marks is at most the weight
-marks-le : {v : List ℕ} {start : ℕ} {terms : List ℕ} {from weight : ℕ} → Summable v start terms from weight
-    → (j : ℕ) → j < 64 → marksOf v start terms from weight j ≤ 63
+marks-le : {span : ℕ} {v : List ℕ} {start : ℕ} {terms : List ℕ} {from weight : ℕ} → Summable span v start terms from weight
+    → (j : ℕ) → j < span → marksOf v start terms from weight j ≤ 63
 marks-le {weight = weight} ok j l = let b = fold-le weight 1 _ (λ i d. ok .mark-le i j d l) in le-trans b (omega (arith, ok .few))
 
 -- ---- the rows one after another
 
 -- f i is added to each row i below e, and at most 63 to any counter
-pub record Raising (rows : ℕ) (f : ℕ → ℕ → ℕ) (c₀ c : List ℕ) (e : ℕ) : Type 0 where
+pub record Raising (span rows : ℕ) (f : ℕ → ℕ → ℕ) (c₀ c : List ℕ) (e : ℕ) : Type 0 where
   pub within : e ≤ rows
   pub long : length c ≡ length c₀
-  pub added : (i j : ℕ) → i < e → j < 64 → place c (64 * i + j) ≡ place c₀ (64 * i + j) + f i j
-  pub high : (k : ℕ) → 64 * e ≤ k → place c k ≡ place c₀ k
+  pub added : (i j : ℕ) → i < e → j < span → place c (span * i + j) ≡ place c₀ (span * i + j) + f i j
+  pub high : (k : ℕ) → span * e ≤ k → place c k ≡ place c₀ k
   pub room : (k : ℕ) → place c k ≤ place c₀ k + 63
 
 -- no row is added
-pub raising-none : (rows : ℕ) (f : ℕ → ℕ → ℕ) (c : List ℕ) → Raising rows f c c 0
-raising-none rows f c =
+pub raising-none : (span rows : ℕ) (f : ℕ → ℕ → ℕ) (c : List ℕ) → Raising span rows f c c 0
+raising-none span rows f c =
     record { within = zero-le; long = refl; added = λ i j l. absurd (not-suc-le-zero l); high = λ k l. refl; room = λ k. omega arith }
 
-module _ {rows : ℕ} {f : ℕ → ℕ → ℕ} {c₀ c : List ℕ} {e : ℕ} (h : Raising rows f c₀ c e) where
+module _ {span rows : ℕ} {f : ℕ → ℕ → ℕ} {c₀ c : List ℕ} {e : ℕ} (h : Raising span rows f c₀ c e) where
   -- one more row
-  pub raising-more : {row c′ : List ℕ} → e < rows → row ≡ table 64 (f e) → ((j : ℕ) → j < 64 → f e j ≤ 63) → RowAdded e row c c′
-      → Raising rows f c₀ c′ (e + 1)
+  pub raising-more : {row c′ : List ℕ} → e < rows → row ≡ table span (f e) → ((j : ℕ) → j < span → f e j ≤ 63) → RowAdded span e row c c′
+      → Raising span rows f c₀ c′ (e + 1)
   raising-more {row} {c′} l q few put =
       record {
         within = omega arith;
         long = put .long ∙ h .long;
         added = λ i j b s. ⊎-elim
-            (λ d. subst (λ (i : ℕ). place c′ (64 * i + j) ≡ place c₀ (64 * i + j) + f i j) (sym d) (new j s))
-            (λ b. put .low (64 * i + j) (omega arith) ∙ h .added i j b s)
+            (λ d. subst (λ (i : ℕ). place c′ (span * i + j) ≡ place c₀ (span * i + j) + f i j) (sym d) (new j s))
+            (λ b. put .low (span * i + j) (omega (arith, rows-apart span b)) ∙ h .added i j b s)
             (eq-or-lt-of-le (le-of-suc-le-suc (subst (λ (m : ℕ). i < m) (add-one e) b)));
-        high = λ k b. put .high k (omega arith) ∙ h .high k (omega arith);
-        room = λ k. room k (decLt k (64 * e)) (decLt k (64 * e + 64));
+        high = λ k b. put .high k (omega (arith, next)) ∙ h .high k (omega (arith, next));
+        room = λ k. room k (decLt k (span * e)) (decLt k (span * e + span));
       }
     where
-      new : (j : ℕ) → j < 64 → place c′ (64 * e + j) ≡ place c₀ (64 * e + j) + f e j
-      new j s = put .added j s ∙ ap₂ _+_ (h .high _ (omega arith)) (ap (λ (r : List ℕ). place r j) q ∙ table-at 64 _ s)
+      next : span * e + span ≤ span * (e + 1)
+      next = rows-apart span {b = e} {c = e + 1} (omega arith)
 
-      room : (k : ℕ) → Dec (k < 64 * e) → Dec (k < 64 * e + 64) → place c′ k ≤ place c₀ k + 63
+      new : (j : ℕ) → j < span → place c′ (span * e + j) ≡ place c₀ (span * e + j) + f e j
+      new j s = put .added j s ∙ ap₂ _+_ (h .high _ (omega arith)) (ap (λ (r : List ℕ). place r j) q ∙ table-at span _ s)
+
+      room : (k : ℕ) → Dec (k < span * e) → Dec (k < span * e + span) → place c′ k ≤ place c₀ k + 63
       room k (yes b) d = le-trans (le-of-eq (put .low k b)) (h .room k)
       room k (no b) (yes d) =
-          let split : k ≡ 64 * e + (k - 64 * e) = omega arith in
-          subst (λ (k : ℕ). place c′ k ≤ place c₀ k + 63) (sym split) (omega (arith, new (k - 64 * e) (omega arith), few (k - 64 * e) (omega arith)))
+          let split : k ≡ span * e + (k - span * e) = omega arith in
+          subst (λ (k : ℕ). place c′ k ≤ place c₀ k + 63) (sym split) (omega (arith, new (k - span * e) (omega arith), few (k - span * e) (omega arith)))
       room k (no b) (no d) = le-trans (le-of-eq (put .high k (omega arith))) (h .room k)
 
 -- ---- what the rows have
 
 -- the powers can be marked
-pub turned-markable : {p n : ℕ} {w terms : List ℕ} {from weight : ℕ} {v c : List ℕ} {q : ℕ} (rows : ℕ) → Turned p n w terms from weight v c → q ≡ 2 ^ p
-    → rows ≤ 2 * (q - 1) → Markable rows terms v
-turned-markable {p} rows ok size most-rows =
+pub turned-markable : {stride span p n : ℕ} {w terms : List ℕ} {from weight : ℕ} {v c : List ℕ} {q : ℕ} (rows : ℕ)
+    → Turned stride span p n w terms from weight v c → q ≡ 2 ^ p → rows ≤ 2 * (q - 1) → Markable stride rows terms v
+turned-markable {stride} {p = p} rows ok size most-rows =
     let most : 2 ^ p ≤ 64 = order-le (ok .sizes) in
     record {
       within = omega (arith, ok .powers-long);
-      long = omega (arith, ok .marks-long, pow-pos p);
+      long = le-trans (mul-le-mul-left {m = rows} {n = 2 * (2 ^ p - 1)} stride (omega (arith, pow-pos p))) (ok .marks-long);
       byte = λ e l. omega (arith, ok .power-at e (omega arith), power-below p (ok .sizes .p-low) (ok .sizes .p-high) e);
     }
 
-module _ {p n : ℕ} {w terms : List ℕ} {from weight : ℕ} {v₀ c₀ d v : List ℕ} {q rows : ℕ}
-    (ok : Turned p n w terms from weight v₀ c₀) (two : Twofold p n w d) (marked : Marked rows (powersIn terms) d v)
+module _ {stride span p n : ℕ} {w terms : List ℕ} {from weight : ℕ} {v₀ c₀ d v : List ℕ} {q rows : ℕ}
+    (ok : Turned stride span p n w terms from weight v₀ c₀) (two : Twofold stride p n w d) (marked : Marked stride rows (powersIn terms) d v)
     (enough : 2 * (q - 1) ≤ rows) (size : q ≡ 2 ^ p) where
   -- a term is an offset of rows and of places
-  split : (e i j : ℕ) → 128 * e + termsFrom terms from i + j ≡ 128 * (e + termsFrom terms from i / 128) + (termsFrom terms from i % 128 + j)
-  split e i j = omega (arith, div-add-mod' (termsFrom terms from i) 128)
+  split : (e i j : ℕ)
+      → stride * e + termsFrom terms from i + j ≡ stride * (e + termsFrom terms from i / stride) + (termsFrom terms from i % stride + j)
+  split e i j = omega (arith, div-add-mod (termsFrom terms from i) stride, mul-add stride e (termsFrom terms from i / stride))
 
   module _ (e i : ℕ) (l : e < q - 1) (b : i < weight) where
-    mark-of : (j : ℕ) → j < 64 → place v (128 * e + termsFrom terms from i + j)
-        ≡ indicator (eqb (place d (termsFrom terms from i % 128 + j)) (powersIn terms (e + termsFrom terms from i / 128)))
+    mark-of : (j : ℕ) → j < span → place v (stride * e + termsFrom terms from i + j)
+        ≡ indicator (eqb (place d (termsFrom terms from i % stride + j)) (powersIn terms (e + termsFrom terms from i / stride)))
     mark-of j s =
         ap (place v) (split e i j)
-        ∙ marked .mark-at _ _ (omega (arith, ok .turning .log-lt i b)) (omega (arith, ok .turning .place-lt i b, ok .sizes .n-high))
+        ∙ marked .mark-at _ _ (omega (arith, ok .turning .log-lt i b)) (omega (arith, ok .turning .place-lt i b, ok .fits))
 
   -- what counting row e asks
-  pub turned-summable : (e : ℕ) → e < q - 1 → Summable v (128 * e) terms from weight
+  pub turned-summable : (e : ℕ) → e < q - 1 → Summable span v (stride * e) terms from weight
   turned-summable e l =
       record {
         few = ok .turning .few;
         long = ok .terms-long;
         within = λ i b. omega (
           arith,
-          div-add-mod' (termsFrom terms from i) 128,
+          split e i span,
+          rows-apart stride {b = e + termsFrom terms from i / stride} {c = rows} (omega (arith, ok .turning .log-lt i b)),
           marked .long,
-          ok .turning .log-lt i b,
           ok .turning .place-lt i b,
-          ok .sizes .n-high,
+          ok .fits,
         );
         mark-le = λ i j b s.
             le-trans (le-of-eq (mark-of e i l b j s))
-            (at-most-one (eqb (place d (termsFrom terms from i % 128 + j)) (powersIn terms (e + termsFrom terms from i / 128))));
+            (at-most-one (eqb (place d (termsFrom terms from i % stride + j)) (powersIn terms (e + termsFrom terms from i / stride))));
       }
     where
       at-most-one : (t : Bool) → indicator t ≤ 1
@@ -121,25 +126,26 @@ module _ {p n : ℕ} {w terms : List ℕ} {from weight : ℕ} {v₀ c₀ d v : L
       at-most-one false = omega arith
 
   -- and a bound of its counts
-  pub turned-le : (e : ℕ) → e < q - 1 → (j : ℕ) → j < 64 → marksOf v (128 * e) terms from weight j ≤ 63
+  pub turned-le : (e : ℕ) → e < q - 1 → (j : ℕ) → j < span → marksOf v (stride * e) terms from weight j ≤ 63
   turned-le e l = marks-le (turned-summable e l)
 
-  marks-counted : (e j : ℕ) → e < q - 1 → j < n → marksOf v (128 * e) terms from weight j ≡ termCounts p (at n w) (termsFrom terms from) weight e j
+  marks-counted : (e j : ℕ) → e < q - 1 → j < n
+      → marksOf v (stride * e) terms from weight j ≡ termCounts stride p (at n w) (termsFrom terms from) weight e j
   unfolding termCounts
   marks-counted e j l s =
       fold-cong _+_ 0 weight (λ i b.
-      mark-of e i l b j (omega (arith, ok .sizes .n-high))
+      mark-of e i l b j (omega (arith, ok .short))
       ∙ ap₂ (λ (x y : ℕ). indicator (eqb x y))
-      (two .places _ (omega (arith, ok .turning .place-lt i b)) ∙ ap (at n w) (add-comm (termsFrom terms from i % 128) j))
+      (two .places _ (omega (arith, ok .turning .place-lt i b)) ∙ ap (at n w) (add-comm (termsFrom terms from i % stride) j))
       (ok .power-at _ (omega (arith, ok .turning .log-lt i b))))
 
   -- all rows: the terms are counted
-  pub raising-end : {c : List ℕ} {e : ℕ} → Raising (q - 1) (λ e. marksOf v (128 * e) terms from weight) c₀ c e → q - 1 ≤ e
-      → Counted p n (termCounts p (at n w) (termsFrom terms from) weight) c₀ c
+  pub raising-end : {c : List ℕ} {e : ℕ} → Raising span (q - 1) (λ e. marksOf v (stride * e) terms from weight) c₀ c e → q - 1 ≤ e
+      → Counted span p n (termCounts stride p (at n w) (termsFrom terms from) weight) c₀ c
   raising-end h l =
       record {
         long = h .long;
         added = λ e j b s.
-            h .added e j (omega arith) (omega (arith, ok .sizes .n-high)) ∙ ap (λ (x : ℕ). place c₀ (64 * e + j) + x) (marks-counted e j (omega arith) s);
+            h .added e j (omega arith) (omega (arith, ok .short)) ∙ ap (λ (x : ℕ). place c₀ (span * e + j) + x) (marks-counted e j (omega arith) s);
         room = h .room;
       }

@@ -29,7 +29,7 @@ const COUNTERS: usize = FEW_SYMBOLS * SPAN;
 // Row e of v: where d has the symbol s.
 fn mark(d: [u8; STRIDE], s: u8, e: usize, v: &mut [u8])
     requires { ⌜ 128 * e + 128 ≤ length (now v) ⌝ }
-    ensures { λ _. ⌜ RowPut e (λ j. indicator (eqb (place d j) s)) (now (v .entry)) (now (v .exit)) ⌝ }
+    ensures { λ _. ⌜ RowPut 128 e (λ j. indicator (eqb (place d j) s)) (now (v .entry)) (now (v .exit)) ⌝ }
 {
     let from = STRIDE * e;
     let mut j = 0;
@@ -41,8 +41,8 @@ fn mark(d: [u8; STRIDE], s: u8, e: usize, v: &mut [u8])
 
 // The first rows of v: where d has each of the powers.
 fn mark_rows(rows: usize, terms: &[u16], d: [u8; STRIDE], v: &mut [u8])
-    requires { ⌜ Markable rows (now terms) (now v) ⌝ }
-    ensures { λ _. ⌜ Marked rows (powersIn (now (terms .entry))) d (now (v .exit)) ⌝ }
+    requires { ⌜ Markable 128 rows (now terms) (now v) ⌝ }
+    ensures { λ _. ⌜ Marked 128 rows (powersIn (now (terms .entry))) d (now (v .exit)) ⌝ }
 {
     let mut e = 0;
     while e < rows {
@@ -53,7 +53,7 @@ fn mark_rows(rows: usize, terms: &[u16], d: [u8; STRIDE], v: &mut [u8])
 
 // Adds marks to a row of counters.
 fn add_marks(v: &[u8], from: usize, row: &mut [u8; SPAN])
-    requires { ⌜ Addable (now v) from (now row) ⌝ }
+    requires { ⌜ Addable 64 (now v) from (now row) ⌝ }
     ensures { λ _. ⌜ now (row .exit) ≡ table 64 (λ j. place (now (row .entry)) j + place (now (v .entry)) (from + j)) ⌝ }
 {
     let mut j = 0;
@@ -65,7 +65,7 @@ fn add_marks(v: &[u8], from: usize, row: &mut [u8; SPAN])
 
 // For each column the sum of its marks over the terms of a dual word.
 fn count_row(v: &[u8], start: usize, terms: &[u16], from: usize, weight: usize) -> [u8; SPAN]
-    requires { ⌜ Summable (now v) start (now terms) from weight ⌝ }
+    requires { ⌜ Summable 64 (now v) start (now terms) from weight ⌝ }
     ensures { λ r. ⌜ r ≡ table 64 (marksOf (now (v .entry)) start (now (terms .entry)) from weight) ⌝ }
 {
     let mut row = [0u8; SPAN];
@@ -80,7 +80,7 @@ fn count_row(v: &[u8], start: usize, terms: &[u16], from: usize, weight: usize) 
 // Adds a row to row e of the counters.
 fn raise(row: [u8; SPAN], e: usize, counts: &mut [u16])
     requires { ⌜ (64 * e + 64 ≤ length (now counts)) × ((k : ℕ) → place (now counts) k ≤ 65280) ⌝ }
-    ensures { λ _. ⌜ RowAdded e row (now (counts .entry)) (now (counts .exit)) ⌝ }
+    ensures { λ _. ⌜ RowAdded 64 e row (now (counts .entry)) (now (counts .exit)) ⌝ }
 {
     let from = SPAN * e;
     let mut j = 0;
@@ -101,8 +101,8 @@ fn count_dual(
     v: &mut [u8],
     counts: &mut [u16],
 )
-    requires { ⌜ Turned p n w (now terms) from weight (now v) (now counts) ⌝ }
-    ensures { λ _. ⌜ Counted p n (termCounts p (at n w) (termsFrom (now (terms .entry)) from) weight) (now (counts .entry)) (now (counts .exit)) ⌝ }
+    requires { ⌜ Turned 128 64 p n w (now terms) from weight (now v) (now counts) ⌝ }
+    ensures { λ _. ⌜ Counted 64 p n (termCounts 128 p (at n w) (termsFrom (now (terms .entry)) from) weight) (now (counts .entry)) (now (counts .exit)) ⌝ }
 {
     let d = word_table::doubled(p, n, w);
     let rows = sizes::wide(field::order(p)) - 1;
@@ -129,8 +129,8 @@ fn gather_row(n: usize, to: usize, from: usize, counts: &[u16], m: &mut [u16])
 
 // Rows 1 to q - 1 of the matrix: the row of a symbol is the counters' row of its logarithm.
 fn gather(p: u8, n: usize, terms: &[u16], counts: &[u16], m: &mut [u16])
-    requires { ⌜ Gatherable p n (now terms) (now counts) (now m) ⌝ }
-    ensures { λ _. ⌜ Gathered p n (now (terms .entry)) (now (counts .entry)) (now (m .exit)) ⌝ }
+    requires { ⌜ Gatherable 64 p n (now terms) (now counts) (now m) ⌝ }
+    ensures { λ _. ⌜ Gathered 64 p n (now (terms .entry)) (now (counts .entry)) (now (m .exit)) ⌝ }
 {
     let q = sizes::wide(field::order(p));
     let mut i: usize = 1;
@@ -163,8 +163,8 @@ fn counters() -> [u16; COUNTERS]
 
 // Counts the dual words. t is the table of the received word's multiples.
 fn count_duals(p: u8, n: usize, duals: usize, terms: &[u16], t: &[u8], counts: &mut [u16])
-    requires { ⌜ Countable p n duals (now terms) (now t) (now counts) ⌝ }
-    ensures { λ _. ⌜ Tallied p n duals (now (terms .entry)) (wordOf n (now (t .entry))) duals (now (counts .exit)) ⌝ }
+    requires { ⌜ Countable 128 64 p n duals (now terms) (now t) (now counts) ⌝ }
+    ensures { λ _. ⌜ Tallied 128 64 p n duals (now (terms .entry)) (wordOf 128 n (now (t .entry))) duals (now (counts .exit)) ⌝ }
 {
     let weight = terms[0] as usize;
     let mut v = mark_room();
@@ -178,8 +178,8 @@ fn count_duals(p: u8, n: usize, duals: usize, terms: &[u16], t: &[u8], counts: &
 
 // Fills the matrix of the word r over the dual words whose terms are listed.
 pub fn fill(p: u8, n: usize, duals: usize, terms: &[u16], r: Word, m: &mut [u16])
-    requires { ⌜ Filling p n duals (now terms) r (now m) × (p ≤ 3) ⌝ }
-    ensures { λ _. ⌜ ((b : ℕ → ℕ → ℕ) → TermsOf p n duals b (now (terms .entry)) → now (m .exit) ≡ counted p n b duals (at n r)) ⌝ }
+    requires { ⌜ Filling 128 p n duals (now terms) r (now m) × (p ≤ 3) ⌝ }
+    ensures { λ _. ⌜ ((b : ℕ → ℕ → ℕ) → TermsOf 128 p n duals b (now (terms .entry)) → now (m .exit) ≡ counted p n b duals (at n r)) ⌝ }
 {
     let mut t = table_room();
     word_table::tabulate(p, n, word_table::widened(n, r), &mut t);

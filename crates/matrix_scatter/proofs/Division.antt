@@ -3,7 +3,7 @@
 use mathlib.Core.Path.{_≡_, refl, sym, ap, ap₂, _∙_}
 use mathlib.Core.Bool.{Bool, true, false, cond, _&&_, _||_}
 use mathlib.Core.List.{List}
-use Prim.Native.Nat.{ℕ, _+_, _-_, _*_, _^_, _<_}
+use Prim.Native.Nat.{ℕ, _+_, _-_, _*_, _^_, _≤_, _<_}
 use native.Mathlib.Nat.{add-zero, add-comm, ne-of-lt}
 use native.Mathlib.Decide.{ℕ-discrete}
 use native.Mathlib.Omega.{arith}
@@ -73,19 +73,19 @@ module _ {p n : ℕ} {logs : List ℕ} (s : Sizes p n) (x : PowersOf p logs) whe
           (x .log-is c c-pos c-lt) (x .log-is v (omega arith) v-lt)))
 
   -- of all terms of a dual word
-  pub both-rows : {b : ℕ → ℕ} (r : ℕ → ℕ) {weight : ℕ} {turns : ℕ → ℕ} → Turns n b logs weight turns
+  pub both-rows : {stride : ℕ} {b : ℕ → ℕ} (r : ℕ → ℕ) {weight : ℕ} {turns : ℕ → ℕ} → n + n ≤ stride → Turns stride n b logs weight turns
       → ((j : ℕ) → b j < 2 ^ p) → ((m : ℕ) → product (gf p) n b r m < 2 ^ p)
       → (i j : ℕ) → 0 < i → i < 2 ^ p
-      → rowsWith p (λ m. symbolRow p logs (product (gf p) n b r m)) weight turns (place logs i) j
-      + rowsWith p (λ m. symbolRow p logs (product (gf p) n b r m)) weight turns (place logs i + (2 ^ p - 1)) j
+      → rowsWith stride p (λ m. symbolRow p logs (product (gf p) n b r m)) weight turns (place logs i) j
+      + rowsWith stride p (λ m. symbolRow p logs (product (gf p) n b r m)) weight turns (place logs i + (2 ^ p - 1)) j
       ≡ dualCounts p n b r i j
   unfolding rowsWith dualCounts placeCounts
-  both-rows {b} r {weight} {turns} h b-lt w-lt i j i-pos i-lt =
+  both-rows {b = b} r {weight} {turns} fits h b-lt w-lt i j i-pos i-lt =
       sym (fold-op _+_ 0 sums weight _ _)
       ∙ fold-cong _+_ 0 weight (λ k l.
       ap₂ (λ (y z : ℕ). indicator (eqb (symbolRow p logs (product (gf p) n b r (y + j)) + (2 ^ p - 1 - z)) (place logs i))
       + indicator (eqb (symbolRow p logs (product (gf p) n b r (y + j)) + (2 ^ p - 1 - z)) (place logs i + (2 ^ p - 1))))
-      (place-of s h k l) (log-of s h k l)
+      (place-of fits h k l) (log-of fits h k l)
       ∙ divided (b (h .places .place-at k)) (product (gf p) n b r (h .places .place-at k + j)) i (h .places .symbol-pos k l) (b-lt _) (w-lt _) i-pos i-lt
       ∙ ap (λ (m : ℕ). indicator (eqb (symbols.product p (symbols.inverse p (b (h .places .place-at k))) (product (gf p) n b r m)) i))
       (add-comm (h .places .place-at k) j))

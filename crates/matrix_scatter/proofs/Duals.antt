@@ -27,7 +27,7 @@ use Rattle.matrix_scatter.specs.Fill.{Scattering, dualRows}
 use Rattle.matrix_scatter.proofs.Rows.{row-le, start-le}
 
 -- the room has logarithms
-pub logged : {p n duals : ℕ} {terms : List ℕ} → Terms p n duals terms → Logged p terms
+pub logged : {stride p n duals : ℕ} {terms : List ℕ} → Terms stride p n duals terms → Logged p terms
 logged h = record { long = omega (arith, h .long, order-le (h .sizes)); log-lt = h .powers .log-lt }
 
 -- a symbol's row, read off its start
@@ -35,12 +35,12 @@ unfoldable pub startRow : ℕ → List ℕ → ℕ → ℕ
 startRow n starts c = place starts c / (n + 1)
 
 -- what dual word l counts in the flat counter k, by the starts of the rows and the table t of the received word
-abbrev pub dualAdds : ℕ → ℕ → List ℕ → List ℕ → List ℕ → (ℕ → ℕ → ℕ) → ℕ → ℕ → ℕ
-dualAdds p n terms starts t b k l = dualRows p n terms (startRow n starts) (wordOf n t) (b l) l (k / (n + 1)) (k % (n + 1))
+abbrev pub dualAdds : ℕ → ℕ → ℕ → List ℕ → List ℕ → List ℕ → (ℕ → ℕ → ℕ) → ℕ → ℕ → ℕ
+dualAdds stride p n terms starts t b k l = dualRows stride p n terms (startRow n starts) (wordOf stride n t) (b l) l (k / (n + 1)) (k % (n + 1))
 
 -- the dual words below l are counted, whichever they are
-pub record CountedTo (p n duals : ℕ) (terms starts t counts₀ counts : List ℕ) (l : ℕ) : Type 0 where
-  pub counted : (b : ℕ → ℕ → ℕ) → TermsOf p n duals b terms → Adding duals (dualAdds p n terms starts t b) counts₀ counts l
+pub record CountedTo (stride p n duals : ℕ) (terms starts t counts₀ counts : List ℕ) (l : ℕ) : Type 0 where
+  pub counted : (b : ℕ → ℕ → ℕ) → TermsOf stride p n duals b terms → Adding duals (dualAdds stride p n terms starts t b) counts₀ counts l
 
 -- a product has symbols
 pub product-symbol : {p n : ℕ} → Sizes p n → (b f : ℕ → ℕ) (m : ℕ) → product (gf p) n b f m < 2 ^ p
@@ -55,67 +55,67 @@ start-row {p} {n} {logs} st c l =
     ap (λ (x : ℕ). x / (n + 1)) (st .start c l ∙ e) ∙ digits-div (symbolRow p logs c) {m = n + 1} {r = 0} (omega arith)
 
 -- a term counts at most once
-rows-le : (p : ℕ) (row : ℕ → ℕ) (weight : ℕ) (turns : ℕ → ℕ) (e j : ℕ) → rowsWith p row weight turns e j ≤ weight
+rows-le : (stride p : ℕ) (row : ℕ → ℕ) (weight : ℕ) (turns : ℕ → ℕ) (e j : ℕ) → rowsWith stride p row weight turns e j ≤ weight
 unfolding rowsWith
-rows-le p row weight turns e j = count-le weight (λ i. eqb (row (turns i % 128 + j) + (2 ^ p - 1 - turns i / 128)) e)
+rows-le stride p row weight turns e j = count-le weight (λ i. eqb (row (turns i % stride + j) + (2 ^ p - 1 - turns i / stride)) e)
 
-module _ {p n duals : ℕ} {terms r counts₀ : List ℕ} (ok : Scattering p n duals terms r counts₀) {b : ℕ → ℕ → ℕ} (h : TermsOf p n duals b terms)
-    {starts : List ℕ} (t : List ℕ) (st : RowStarts p n terms starts) where
+module _ {stride p n duals : ℕ} {terms r counts₀ : List ℕ} (ok : Scattering stride p n duals terms r counts₀) {b : ℕ → ℕ → ℕ}
+    (h : TermsOf stride p n duals b terms) {starts : List ℕ} (t : List ℕ) (st : RowStarts p n terms starts) where
   s : Sizes p n
   s = h .numbers .sizes
 
   -- the first l dual words add no more than their terms are
-  duals-le : (l k : ℕ) → total l (dualAdds p n terms starts t b k) ≤ l * place terms 0
+  duals-le : (l k : ℕ) → total l (dualAdds stride p n terms starts t b k) ≤ l * place terms 0
   unfolding dualRows
-  duals-le l k = fold-le l (place terms 0) _ (λ i _. rows-le p _ (place terms 0) _ (k / (n + 1)) (k % (n + 1)))
+  duals-le l k = fold-le l (place terms 0) _ (λ i _. rows-le stride p _ (place terms 0) _ (k / (n + 1)) (k % (n + 1)))
 
   -- the counters are zero at first
   empty : (k : ℕ) → place counts₀ k ≤ 0
   empty k = omega (arith, ok .cleared .zero-at k)
 
-  module _ {counts : List ℕ} {l : ℕ} (a : Adding duals (dualAdds p n terms starts t b) counts₀ counts l) where
+  module _ {counts : List ℕ} {l : ℕ} (a : Adding duals (dualAdds stride p n terms starts t b) counts₀ counts l) where
     -- by logarithms and the received word
-    rows-read : wordOf n t ≡ at n r → (l e j : ℕ)
-        → dualRows p n terms (startRow n starts) (wordOf n t) (b l) l e j ≡ dualRows p n terms (symbolRow p terms) (at n r) (b l) l e j
+    rows-read : wordOf stride n t ≡ at n r → (l e j : ℕ)
+        → dualRows stride p n terms (startRow n starts) (wordOf stride n t) (b l) l e j ≡ dualRows stride p n terms (symbolRow p terms) (at n r) (b l) l e j
     unfolding dualRows
     rows-read word l e j =
-        ap (λ (f : ℕ → ℕ). rowsWith p f (place terms 0) (term terms l) e j)
-        (fun-ext (λ m. start-row st _ (product-symbol s (b l) (wordOf n t) m)
+        ap (λ (f : ℕ → ℕ). rowsWith stride p f (place terms 0) (term terms l) e j)
+        (fun-ext (λ m. start-row st _ (product-symbol s (b l) (wordOf stride n t) m)
         ∙ ap (λ (f : ℕ → ℕ). symbolRow p terms (product (gf p) n (b l) f m)) word))
 
     -- after the last dual word
-    pub counter-end : wordOf n t ≡ at n r → duals ≤ l → (e j : ℕ) → e < 3 * (2 ^ p - 1) + 1 → j < n + 1
-        → place counts (e * (n + 1) + j) ≡ total duals (λ l. dualRows p n terms (symbolRow p terms) (at n r) (b l) l e j)
+    pub counter-end : wordOf stride n t ≡ at n r → duals ≤ l → (e j : ℕ) → e < 3 * (2 ^ p - 1) + 1 → j < n + 1
+        → place counts (e * (n + 1) + j) ≡ total duals (λ l. dualRows stride p n terms (symbolRow p terms) (at n r) (b l) l e j)
     counter-end word c e j d f =
         ap (λ (x : List ℕ). place x (e * (n + 1) + j)) (adding-end a c)
         ∙ raised-at counts₀ _ (omega (arith, digits-lt {r = j} {c = n + 1} d f, ok .cleared .size))
         ∙ ap₂ (λ (x y : ℕ). x + y) (ok .cleared .zero-at _)
         (fold-cong _+_ 0 duals (λ l _.
-        ap₂ (dualRows p n terms (startRow n starts) (wordOf n t) (b l) l) (digits-div e f) (digits-mod e f) ∙ rows-read word l e j))
+        ap₂ (dualRows stride p n terms (startRow n starts) (wordOf stride n t) (b l) l) (digits-div e f) (digits-mod e f) ∙ rows-read word l e j))
         ∙ zero-add _
 
     -- no counter is past the number of all terms
     pub counters-most : duals ≤ l → (k : ℕ) → place counts k ≤ 2016
     counters-most c = raised-most counts₀ counts _ (adding-end a c) 2016 2016 empty (λ k. le-trans (duals-le duals k) (all-le (h .numbers))) (omega arith)
 
-    module _ (d : l < duals) {w : List ℕ} (mul : Multiplied p n (b l) (wordOf n t) w) where
-      symbol : (j : ℕ) → j < 64 → place w j < 2 ^ p
+    module _ (d : l < duals) {span : ℕ} {w : List ℕ} (short : n ≤ span) (mul : Multiplied span p n (b l) (wordOf stride n t) w) where
+      symbol : (j : ℕ) → j < span → place w j < 2 ^ p
       symbol j c = mul .symbols .symbol j c
 
       -- the word has offsets
       pub dual-started : Started n starts w
       dual-started =
           record {
-            symbol = λ j c. omega (arith, symbol j (omega (arith, s .n-high)), order-le s);
+            symbol = λ j c. omega (arith, symbol j (omega arith), order-le s);
             small = λ j c.
-                let e = symbol j (omega (arith, s .n-high)) in
+                let e = symbol j (omega arith) in
                 omega (arith, st .start (place w j) e, start-le s (logged (h .numbers)) (place w j) e);
           }
 
-      module _ {cells : List ℕ} (off : Offsets n starts w cells) where
+      module _ {cells : List ℕ} (off : Offsets stride n starts w cells) where
         word-symbol : (m : ℕ) → at n w m < 2 ^ p
         unfolding at
-        word-symbol m = symbol (m % n) (omega (arith, mod-lt m (s .n-low), s .n-high))
+        word-symbol m = symbol (m % n) (omega (arith, mod-lt m (s .n-low)))
 
         cell-is : (m : ℕ) → m < n + n → place cells m ≡ symbolRow p terms (at n w m) * (n + 1) + m
         cell-is m c = off .offset m c ∙ ap (λ (x : ℕ). x + m) (st .start _ (word-symbol m))
@@ -127,7 +127,7 @@ module _ {p n duals : ℕ} {terms r counts₀ : List ℕ} (ok : Scattering p n d
             ap (λ (x : ℕ). x / (n + 1)) e ∙ digits-div (symbolRow p terms (at n w m)) {m = n + 1} {r = 0} (omega arith)
 
         -- and its terms can be counted
-        pub dual-countable : Countable l p n cells terms counts
+        pub dual-countable : Countable stride l p n cells terms counts
         dual-countable =
             let x = h .numbers in
             let few : place terms 0 ≤ 63 = omega (arith, x .few, s .n-high) in
@@ -136,7 +136,7 @@ module _ {p n duals : ℕ} {terms r counts₀ : List ℕ} (ok : Scattering p n d
               eights = ok .eights;
               low = omega (arith, x .few-duals);
               few = few;
-              cells-long = omega (arith, off .long, s .n-high);
+              cells-long = omega (arith, off .long, x .fits);
               row-le = λ m c. omega (arith, row-is m c, row-le (logged x) (at n w m) (word-symbol m));
               cell-at = λ m c. cell-is m c ∙ ap (λ (x : ℕ). x * (n + 1) + m) (sym (row-is m c));
               terms-long = x .long;
@@ -148,16 +148,16 @@ module _ {p n duals : ℕ} {terms r counts₀ : List ℕ} (ok : Scattering p n d
             }
 
         -- the rows by the offsets are the rows of the product
-        rows-same : (k : ℕ) → termsAdd l p n cells terms k ≡ dualAdds p n terms starts t b k l
+        rows-same : (k : ℕ) → termsAdd stride l p n cells terms k ≡ dualAdds stride p n terms starts t b k l
         unfolding rowsWith dualRows
         rows-same k =
             fold-cong _+_ 0 (place terms 0) (λ i c.
-            let m = term terms l i % 128 + k % (n + 1) in
-            ap (λ (x : ℕ). indicator (eqb (x + (2 ^ p - 1 - term terms l i / 128)) (k / (n + 1))))
+            let m = term terms l i % stride + k % (n + 1) in
+            ap (λ (x : ℕ). indicator (eqb (x + (2 ^ p - 1 - term terms l i / stride)) (k / (n + 1))))
             (row-is m (omega (arith, h .numbers .place-lt l i d c, mod-lt k {m = n + 1} (omega arith)))
-            ∙ sym (start-row st _ (word-symbol m)) ∙ ap (startRow n starts) (multiplied-at s (wordOf-period n t) mul m)))
+            ∙ sym (start-row st _ (word-symbol m)) ∙ ap (startRow n starts) (multiplied-at s (wordOf-period stride n t) mul m)))
 
         -- one more dual word
-        pub dual-more : (counts′ : List ℕ) → counts′ ≡ raised counts (termsAdd l p n cells terms)
-            → Adding duals (dualAdds p n terms starts t b) counts₀ counts′ (l + 1)
+        pub dual-more : (counts′ : List ℕ) → counts′ ≡ raised counts (termsAdd stride l p n cells terms)
+            → Adding duals (dualAdds stride p n terms starts t b) counts₀ counts′ (l + 1)
         dual-more counts′ e = adding-more a counts′ d (e ∙ raised-same counts (λ k _. rows-same k))

@@ -19,67 +19,68 @@ use Rattle.matrix_scatter.specs.Scatter.{Within, cellAdds, rowAt, rowsWi
 use Rattle.matrix_scatter.proofs.Column.{one-column}
 
 -- 1 where term i counts in the flat counter k
-unfoldable pub termAdds : ℕ → ℕ → ℕ → List ℕ → List ℕ → ℕ → ℕ → ℕ
-termAdds l p n cells terms k i =
+unfoldable pub termAdds : ℕ → ℕ → ℕ → ℕ → List ℕ → List ℕ → ℕ → ℕ → ℕ
+termAdds stride l p n cells terms k i =
     let t = term terms l i in
-    indicator (eqb (rowAt n cells (t % 128 + k % (n + 1)) + (2 ^ p - 1 - t / 128)) (k / (n + 1)))
+    indicator (eqb (rowAt n cells (t % stride + k % (n + 1)) + (2 ^ p - 1 - t / stride)) (k / (n + 1)))
 
 -- a term counts at most once
-terms-le : (l p n : ℕ) (cells terms : List ℕ) (i k : ℕ) → total i (termAdds l p n cells terms k) ≤ i
+terms-le : (stride l p n : ℕ) (cells terms : List ℕ) (i k : ℕ) → total i (termAdds stride l p n cells terms k) ≤ i
 unfolding termAdds
-terms-le l p n cells terms i k =
-    count-le i (λ i. eqb (rowAt n cells (term terms l i % 128 + k % (n + 1)) + (2 ^ p - 1 - term terms l i / 128)) (k / (n + 1)))
+terms-le stride l p n cells terms i k =
+    count-le i (λ i. eqb (rowAt n cells (term terms l i % stride + k % (n + 1)) + (2 ^ p - 1 - term terms l i / stride)) (k / (n + 1)))
 
-module _ {l p n : ℕ} {cells terms counts₀ counts : List ℕ} {i : ℕ}
-    (ok : Countable l p n cells terms counts₀) (a : Adding (place terms 0) (termAdds l p n cells terms) counts₀ counts i) where
+module _ {stride l p n : ℕ} {cells terms counts₀ counts : List ℕ} {i : ℕ}
+    (ok : Countable stride l p n cells terms counts₀) (a : Adding (place terms 0) (termAdds stride l p n cells terms) counts₀ counts i) where
   -- after the last term
-  pub terms-end : place terms 0 ≤ i → counts ≡ raised counts₀ (termsAdd l p n cells terms)
+  pub terms-end : place terms 0 ≤ i → counts ≡ raised counts₀ (termsAdd stride l p n cells terms)
   unfolding termAdds rowsWith
   terms-end b = adding-end a b
 
   module _ (b : i < place terms 0) {last t : ℕ} (e : last ≡ 2 ^ p - 1) (f : t ≡ term terms l i) where
-    place-lt : t % 128 < n
-    place-lt = subst (λ (t : ℕ). t % 128 < n) (sym f) (ok .place-lt i b)
+    place-lt : t % stride < n
+    place-lt = subst (λ (t : ℕ). t % stride < n) (sym f) (ok .place-lt i b)
 
     -- the term's logarithm
-    pub log-lt : t / 128 < last
-    log-lt = let c : t / 128 + 1 < 2 ^ p = subst (λ (t : ℕ). t / 128 + 1 < 2 ^ p) (sym f) (ok .log-lt i b) in omega arith
+    pub log-lt : t / stride < last
+    log-lt = let c : t / stride + 1 < 2 ^ p = subst (λ (t : ℕ). t / stride + 1 < 2 ^ p) (sym f) (ok .log-lt i b) in omega arith
 
-    -- the place lies in the rows (last - t / 128) by
-    pub base-room : t % 128 ≤ (last - t / 128) * (n + 1)
-    base-room = let c : 1 ≤ last - t / 128 = omega (arith, log-lt) in omega (arith, place-lt, mul-le-mul-right (n + 1) c)
+    -- the place lies in the rows (last - t / stride) by
+    pub base-room : t % stride ≤ (last - t / stride) * (n + 1)
+    base-room = let c : 1 ≤ last - t / stride = omega (arith, log-lt) in omega (arith, place-lt, mul-le-mul-right (n + 1) c)
 
     -- which fit
-    pub base-small : (last - t / 128) * (n + 1) ≤ 4032
+    pub base-small : (last - t / stride) * (n + 1) ≤ 4032
     base-small =
-        let c : last - t / 128 ≤ 63 = omega (arith, e, order-le (ok .sizes)) in
+        let c : last - t / stride ≤ 63 = omega (arith, e, order-le (ok .sizes)) in
         omega (arith, mul-le-mul-right (n + 1) c, ok .sizes .n-high)
 
     -- the counter of column j
     column : (j : ℕ) → j < n + 1
-        → (last - t / 128) * (n + 1) - t % 128 + place cells (t % 128 + j) ≡ (rowAt n cells (t % 128 + j) + (last - t / 128)) * (n + 1) + j
+        → (last - t / stride) * (n + 1) - t % stride + place cells (t % stride + j) ≡ (rowAt n cells (t % stride + j) + (last - t / stride)) * (n + 1) + j
     column j d =
-        omega (arith, base-room, ok .cell-at (t % 128 + j) (omega (arith, place-lt)), add-mul (rowAt n cells (t % 128 + j)) (last - t / 128) (n + 1))
+        omega (arith, base-room, ok .cell-at (t % stride + j) (omega (arith, place-lt)), add-mul (rowAt n cells (t % stride + j)) (last - t / stride) (n + 1))
 
-    row-lt : (j : ℕ) → j < n + 1 → rowAt n cells (t % 128 + j) + (last - t / 128) < 3 * (2 ^ p - 1) + 1
-    row-lt j d = omega (arith, e, ok .row-le (t % 128 + j) (omega (arith, place-lt)))
+    row-lt : (j : ℕ) → j < n + 1 → rowAt n cells (t % stride + j) + (last - t / stride) < 3 * (2 ^ p - 1) + 1
+    row-lt j d = omega (arith, e, ok .row-le (t % stride + j) (omega (arith, place-lt)))
 
     -- the term can be counted
-    pub term-within : Within cells (t % 128) ((last - t / 128) * (n + 1) - t % 128) (n + 1) counts 65400
+    pub term-within : Within cells (t % stride) ((last - t / stride) * (n + 1) - t % stride) (n + 1) counts 65400
     term-within =
         record {
           long = omega (arith, place-lt, ok .cells-long);
           inside = λ j d. omega (arith, column j d, digits-lt (row-lt j d) d, ok .size, adding-long a);
-          room = raised-most counts₀ counts _ (a .added) i 65400 (ok .room) (λ k. terms-le l p n cells terms i k) (omega (arith, a .within, ok .few));
+          room = raised-most counts₀ counts _ (a .added) i 65400 (ok .room) (λ k. terms-le stride l p n cells terms i k) (omega (arith, a .within, ok .few));
         }
 
     -- and is counted
-    pub term-more : (counts′ : List ℕ) → counts′ ≡ raised counts (λ k. total (n + 1) (cellAdds cells (t % 128) ((last - t / 128) * (n + 1) - t % 128) k))
-        → Adding (place terms 0) (termAdds l p n cells terms) counts₀ counts′ (i + 1)
+    pub term-more : (counts′ : List ℕ)
+        → counts′ ≡ raised counts (λ k. total (n + 1) (cellAdds cells (t % stride) ((last - t / stride) * (n + 1) - t % stride) k))
+        → Adding (place terms 0) (termAdds stride l p n cells terms) counts₀ counts′ (i + 1)
     unfolding termAdds cellAdds
     term-more counts′ d =
         adding-more a counts′ b
         (d ∙ raised-same counts (λ k _.
         fold-cong _+_ 0 (n + 1) (λ j c. ap (λ (x : ℕ). indicator (eqb x k)) (column j c))
-        ∙ one-column (n + 1) (λ j. rowAt n cells (t % 128 + j) + (last - t / 128)) k (omega arith)
-        ∙ ap₂ (λ (t last : ℕ). indicator (eqb (rowAt n cells (t % 128 + k % (n + 1)) + (last - t / 128)) (k / (n + 1)))) f e))
+        ∙ one-column (n + 1) (λ j. rowAt n cells (t % stride + j) + (last - t / stride)) k (omega arith)
+        ∙ ap₂ (λ (t last : ℕ). indicator (eqb (rowAt n cells (t % stride + k % (n + 1)) + (last - t / stride)) (k / (n + 1)))) f e))

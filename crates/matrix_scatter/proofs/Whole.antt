@@ -26,14 +26,15 @@ pub cleared : {p n size : ℕ} {counts : List ℕ} (q : ℕ) → q ≡ 2 ^ p →
     → Cleared p n counts
 cleared {n = n} q e l f z = record { size = omega (arith, ap (λ (q : ℕ). (3 * (q - 1) + 1) * (n + 1)) e); zero-at = z }
 
-module _ {p n duals : ℕ} {terms r m₀ : List ℕ} where
+module _ {stride p n duals : ℕ} {terms r m₀ : List ℕ} where
   -- the dual words can be counted
-  pub scattering : {counts : List ℕ} → Filling p n duals terms r m₀ → (n + 1) % 8 ≡ 0 → Cleared p n counts → Scattering p n duals terms r counts
+  pub scattering : {counts : List ℕ} → Filling stride p n duals terms r m₀ → (n + 1) % 8 ≡ 0 → Cleared p n counts
+      → Scattering stride p n duals terms r counts
   scattering ok e c = record { eights = e; words = ok .words; terms-of = ok .terms-of; word = ok .word; cleared = c }
 
   -- the rows from 1 on are those of the matrix
-  pub rows-filled : {b : ℕ → ℕ → ℕ} {counts m : List ℕ} → TermsOf p n duals b terms → Scattered p n duals terms r counts → Gathered p n terms counts m₀ m
-      → RowsFilled p n b duals (place terms 0) (at n r) m
+  pub rows-filled : {b : ℕ → ℕ → ℕ} {counts m : List ℕ} → TermsOf stride p n duals b terms → Scattered stride p n duals terms r counts
+      → Gathered p n terms counts m₀ m → RowsFilled p n b duals (place terms 0) (at n r) m
   unfolding bothRows dualRows
   rows-filled {b} h c g =
       let x = h .numbers .powers in
@@ -47,5 +48,5 @@ module _ {p n duals : ℕ} {terms r m₀ : List ℕ} where
             (c .counter b h (place terms i + (2 ^ p - 1)) j (omega arith) (omega arith))
             ∙ sym (fold-op _+_ 0 sums duals _ _)
             ∙ fold-cong _+_ 0 duals (λ l e.
-            both-rows s x (at n r) (h .row-of l e .turns-of) (h .row-of l e .symbol) (product-symbol s (b l) (at n r)) i j i-pos i-lt);
+            both-rows s x (at n r) (h .numbers .fits) (h .row-of l e .turns-of) (h .row-of l e .symbol) (product-symbol s (b l) (at n r)) i j i-pos i-lt);
       }

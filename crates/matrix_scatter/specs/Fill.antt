@@ -17,19 +17,19 @@ pub record Cleared (p n : ℕ) (counts : List ℕ) : Type 0 where
   pub zero-at : (k : ℕ) → place counts k ≡ 0
 
 -- what counting the dual words asks: the room has the terms of some
-pub record Scattering (p n duals : ℕ) (terms r counts : List ℕ) : Type 0 where
+pub record Scattering (stride p n duals : ℕ) (terms r counts : List ℕ) : Type 0 where
   pub eights : (n + 1) % 8 ≡ 0
   pub words : ℕ → ℕ → ℕ
-  pub terms-of : TermsOf p n duals words terms
+  pub terms-of : TermsOf stride p n duals words terms
   pub word : Stored p n r
   pub cleared : Cleared p n counts
 
 -- how many terms of dual word l, which is b, count in row e of the counters and column j: `row` tells the row of a symbol, f is the received word
-unfoldable pub dualRows : ℕ → ℕ → List ℕ → (ℕ → ℕ) → (ℕ → ℕ) → (ℕ → ℕ) → ℕ → ℕ → ℕ → ℕ
-dualRows p n terms row f b l e j = rowsWith p (λ m. row (product (gf p) n b f m)) (place terms 0) (term terms l) e j
+unfoldable pub dualRows : ℕ → ℕ → ℕ → List ℕ → (ℕ → ℕ) → (ℕ → ℕ) → (ℕ → ℕ) → ℕ → ℕ → ℕ → ℕ
+dualRows stride p n terms row f b l e j = rowsWith stride p (λ m. row (product (gf p) n b f m)) (place terms 0) (term terms l) e j
 
 -- the counters hold what all dual words count
-pub record Scattered (p n duals : ℕ) (terms r counts : List ℕ) : Type 0 where
-  pub counter : (b : ℕ → ℕ → ℕ) → TermsOf p n duals b terms → (e j : ℕ) → e < 3 * (2 ^ p - 1) + 1 → j < n + 1
-      → place counts (e * (n + 1) + j) ≡ total duals (λ l. dualRows p n terms (symbolRow p terms) (at n r) (b l) l e j)
+pub record Scattered (stride p n duals : ℕ) (terms r counts : List ℕ) : Type 0 where
+  pub counter : (b : ℕ → ℕ → ℕ) → TermsOf stride p n duals b terms → (e j : ℕ) → e < 3 * (2 ^ p - 1) + 1 → j < n + 1
+      → place counts (e * (n + 1) + j) ≡ total duals (λ l. dualRows stride p n terms (symbolRow p terms) (at n r) (b l) l e j)
   pub most : (k : ℕ) → place counts k ≤ 2016

@@ -31,8 +31,8 @@ pub record Started (n : ℕ) (starts w : List ℕ) : Type 0 where
   pub small : (j : ℕ) → j < n → place starts (place w j) ≤ 8064
 
 -- the offsets of the word w twice over: place m has the start of its symbol's row, and m
-pub record Offsets (n : ℕ) (starts w cells : List ℕ) : Type 0 where
-  pub long : length cells ≡ 128
+pub record Offsets (stride n : ℕ) (starts w cells : List ℕ) : Type 0 where
+  pub long : length cells ≡ stride
   pub offset : (m : ℕ) → m < n + n → place cells m ≡ place starts (at n w m) + m
 
 -- what raising four counters asks
@@ -62,15 +62,15 @@ unfoldable pub rowAt : ℕ → List ℕ → ℕ → ℕ
 rowAt n cells m = (place cells m - m) / (n + 1)
 
 -- how many terms of a dual word count in row e of the counters and column j: `row` tells the rows of the product's symbols
-unfoldable pub rowsWith : ℕ → (ℕ → ℕ) → ℕ → (ℕ → ℕ) → ℕ → ℕ → ℕ
-rowsWith p row weight turns e j = total weight (λ i. indicator (eqb (row (turns i % 128 + j) + (2 ^ p - 1 - turns i / 128)) e))
+unfoldable pub rowsWith : ℕ → ℕ → (ℕ → ℕ) → ℕ → (ℕ → ℕ) → ℕ → ℕ → ℕ
+rowsWith stride p row weight turns e j = total weight (λ i. indicator (eqb (row (turns i % stride + j) + (2 ^ p - 1 - turns i / stride)) e))
 
 -- how many terms of dual word l count in the flat counter k: `cells` has the offsets of the product
-abbrev pub termsAdd : ℕ → ℕ → ℕ → List ℕ → List ℕ → ℕ → ℕ
-termsAdd l p n cells terms k = rowsWith p (rowAt n cells) (place terms 0) (term terms l) (k / (n + 1)) (k % (n + 1))
+abbrev pub termsAdd : ℕ → ℕ → ℕ → ℕ → List ℕ → List ℕ → ℕ → ℕ
+termsAdd stride l p n cells terms k = rowsWith stride p (rowAt n cells) (place terms 0) (term terms l) (k / (n + 1)) (k % (n + 1))
 
 -- what counting the terms of dual word l asks
-pub record Countable (l p n : ℕ) (cells terms counts : List ℕ) : Type 0 where
+pub record Countable (stride l p n : ℕ) (cells terms counts : List ℕ) : Type 0 where
   pub sizes : Sizes p n
   pub eights : (n + 1) % 8 ≡ 0
   pub low : l < 32
@@ -79,8 +79,8 @@ pub record Countable (l p n : ℕ) (cells terms counts : List ℕ) : Type 0 wher
   pub row-le : (m : ℕ) → m < n + n → rowAt n cells m ≤ 2 * (2 ^ p - 1)
   pub cell-at : (m : ℕ) → m < n + n → place cells m ≡ rowAt n cells m * (n + 1) + m
   pub terms-long : 2240 ≤ length terms
-  pub place-lt : (i : ℕ) → i < place terms 0 → term terms l i % 128 < n
-  pub log-lt : (i : ℕ) → i < place terms 0 → term terms l i / 128 + 1 < 2 ^ p
+  pub place-lt : (i : ℕ) → i < place terms 0 → term terms l i % stride < n
+  pub log-lt : (i : ℕ) → i < place terms 0 → term terms l i / stride + 1 < 2 ^ p
   pub size : (3 * (2 ^ p - 1) + 1) * (n + 1) ≤ length counts
   pub room : (k : ℕ) → place counts k ≤ 65200
 

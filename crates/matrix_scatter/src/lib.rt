@@ -64,7 +64,7 @@ fn row_starts(p: u8, n: usize, terms: &[u16]) -> [u16; SYMBOLS]
 // The offsets of a word of n symbols, twice over.
 fn offsets(n: usize, starts: [u16; SYMBOLS], w: [u8; SPAN]) -> [u16; STRIDE]
     requires { ⌜ (1 ≤ n) × (n ≤ 63) × Started n starts w ⌝ }
-    ensures { λ r. ⌜ Offsets n starts w r ⌝ }
+    ensures { λ r. ⌜ Offsets 128 n starts w r ⌝ }
 {
     let mut out = [0u16; STRIDE];
     let mut j = 0;
@@ -127,8 +127,8 @@ fn count_cells(n: usize, cells: &[u16], h: usize, base: usize, counts: &mut [u16
 
 // Counts the terms of dual word l: `cells` has the offsets of its product with the received word.
 fn count_dual(l: usize, p: u8, n: usize, cells: &[u16], terms: &[u16], counts: &mut [u16])
-    requires { ⌜ Countable l p n (now cells) (now terms) (now counts) ⌝ }
-    ensures { λ _. ⌜ now (counts .exit) ≡ raised (now (counts .entry)) (termsAdd l p n (now (cells .entry)) (now (terms .entry))) ⌝ }
+    requires { ⌜ Countable 128 l p n (now cells) (now terms) (now counts) ⌝ }
+    ensures { λ _. ⌜ now (counts .exit) ≡ raised (now (counts .entry)) (termsAdd 128 l p n (now (cells .entry)) (now (terms .entry))) ⌝ }
 {
     let last = sizes::wide(field::order(p)) - 1;
     let weight = terms[0] as usize;
@@ -171,8 +171,8 @@ fn gather(p: u8, n: usize, terms: &[u16], counts: &[u16], m: &mut [u16])
 
 // Counts the terms of all dual words.
 fn count_duals(p: u8, n: usize, duals: usize, terms: &[u16], r: Word, counts: &mut [u16])
-    requires { ⌜ Scattering p n duals (now terms) r (now counts) ⌝ }
-    ensures { λ _. ⌜ Scattered p n duals (now (terms .entry)) r (now (counts .exit)) ⌝ }
+    requires { ⌜ Scattering 128 p n duals (now terms) r (now counts) ⌝ }
+    ensures { λ _. ⌜ Scattered 128 p n duals (now (terms .entry)) r (now (counts .exit)) ⌝ }
 {
     let starts = row_starts(p, n, terms);
     let mut t = table_room();
@@ -188,8 +188,8 @@ fn count_duals(p: u8, n: usize, duals: usize, terms: &[u16], r: Word, counts: &m
 
 // Fills the matrix by counters that are all zero.
 fn fill_by(p: u8, n: usize, duals: usize, terms: &[u16], r: Word, counts: &mut [u16], m: &mut [u16])
-    requires { ⌜ Filling p n duals (now terms) r (now m) × ((n + 1) % 8 ≡ 0) × Cleared p n (now counts) ⌝ }
-    ensures { λ _. ⌜ ((b : ℕ → ℕ → ℕ) → TermsOf p n duals b (now (terms .entry)) → now (m .exit) ≡ counted p n b duals (at n r)) ⌝ }
+    requires { ⌜ Filling 128 p n duals (now terms) r (now m) × ((n + 1) % 8 ≡ 0) × Cleared p n (now counts) ⌝ }
+    ensures { λ _. ⌜ ((b : ℕ → ℕ → ℕ) → TermsOf 128 p n duals b (now (terms .entry)) → now (m .exit) ≡ counted p n b duals (at n r)) ⌝ }
 {
     count_duals(p, n, duals, terms, r, counts);
     gather(p, n, terms, counts, m);
@@ -198,8 +198,8 @@ fn fill_by(p: u8, n: usize, duals: usize, terms: &[u16], r: Word, counts: &mut [
 
 // Fills the matrix of the word r, where n + 1 is a multiple of 8.
 pub fn fill(p: u8, n: usize, duals: usize, terms: &[u16], r: Word, m: &mut [u16])
-    requires { ⌜ Filling p n duals (now terms) r (now m) × ((n + 1) % 8 ≡ 0) ⌝ }
-    ensures { λ _. ⌜ ((b : ℕ → ℕ → ℕ) → TermsOf p n duals b (now (terms .entry)) → now (m .exit) ≡ counted p n b duals (at n r)) ⌝ }
+    requires { ⌜ Filling 128 p n duals (now terms) r (now m) × ((n + 1) % 8 ≡ 0) ⌝ }
+    ensures { λ _. ⌜ ((b : ℕ → ℕ → ℕ) → TermsOf 128 p n duals b (now (terms .entry)) → now (m .exit) ≡ counted p n b duals (at n r)) ⌝ }
 {
     let rows = 3 * (sizes::wide(field::order(p)) - 1) + 1;
     if rows * (n + 1) <= FEW_COUNTERS {

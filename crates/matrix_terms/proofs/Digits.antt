@@ -2,21 +2,22 @@
 -- Assumes nothing.
 use mathlib.Core.Path.{_≡_, ap, _∙_}
 use mathlib.Core.List.{List}
-use Prim.Native.Nat.{ℕ, _+_, _*_, _/_, _%_, _<_}
+use Prim.Native.Nat.{ℕ, _+_, _*_, _/_, _%_, _≤_, _<_}
+use native.Mathlib.Nat.{mul-comm}
 use native.Mathlib.Omega.{arith}
 use lib.Arith.{digits-div, digits-mod}
-use Rattle.word_array.specs.Stored.{place, Sizes}
+use Rattle.word_array.specs.Stored.{place}
 use Rattle.matrix_terms.specs.Terms.{Turns}
 
-module _ {p n : ℕ} {b : ℕ → ℕ} {logs : List ℕ} {weight : ℕ} {turns : ℕ → ℕ} (s : Sizes p n) (h : Turns n b logs weight turns) where
-  digits : (i : ℕ) → i < weight → turns i ≡ place logs (b (h .places .place-at i)) * 128 + h .places .place-at i
-  digits i l = h .turn-at i l ∙ omega arith
+module _ {stride n : ℕ} {b : ℕ → ℕ} {logs : List ℕ} {weight : ℕ} {turns : ℕ → ℕ} (fits : n + n ≤ stride) (h : Turns stride n b logs weight turns) where
+  digits : (i : ℕ) → i < weight → turns i ≡ place logs (b (h .places .place-at i)) * stride + h .places .place-at i
+  digits i l = h .turn-at i l ∙ ap (λ (x : ℕ). x + h .places .place-at i) (mul-comm stride _)
 
-  low : (i : ℕ) → i < weight → h .places .place-at i < 128
-  low i l = omega (arith, h .places .place-lt i l, s .n-high)
+  low : (i : ℕ) → i < weight → h .places .place-at i < stride
+  low i l = omega (arith, h .places .place-lt i l)
 
-  pub log-of : (i : ℕ) → i < weight → turns i / 128 ≡ place logs (b (h .places .place-at i))
-  log-of i l = ap (λ (x : ℕ). x / 128) (digits i l) ∙ digits-div (place logs (b (h .places .place-at i))) (low i l)
+  pub log-of : (i : ℕ) → i < weight → turns i / stride ≡ place logs (b (h .places .place-at i))
+  log-of i l = ap (λ (x : ℕ). x / stride) (digits i l) ∙ digits-div (place logs (b (h .places .place-at i))) (low i l)
 
-  pub place-of : (i : ℕ) → i < weight → turns i % 128 ≡ h .places .place-at i
-  place-of i l = ap (λ (x : ℕ). x % 128) (digits i l) ∙ digits-mod (place logs (b (h .places .place-at i))) (low i l)
+  pub place-of : (i : ℕ) → i < weight → turns i % stride ≡ h .places .place-at i
+  place-of i l = ap (λ (x : ℕ). x % stride) (digits i l) ∙ digits-mod (place logs (b (h .places .place-at i))) (low i l)

@@ -3,7 +3,6 @@
 use mathlib.Core.Path.{_≡_, sym, ap, _∙_, fun-ext, subst}
 use mathlib.Core.List.{List}
 use Prim.Native.Nat.{ℕ, _^_, _≤_}
-use native.Mathlib.Omega.{arith}
 use lib.Pow.{pow-mono}
 use Rattle.spec_range.specs.Table.{padded}
 use Rattle.spec_word.specs.Word.{at}
@@ -18,12 +17,12 @@ order-low s = pow-mono (s .p-low)
 pub order-le : {p n : ℕ} → Sizes p n → 2 ^ p ≤ 64
 order-le s = pow-mono (s .p-high)
 
-module _ {p n : ℕ} (s : Sizes p n) (r : List ℕ) {w : List ℕ} (e : w ≡ padded 64 n (place r)) where
+module _ {p n : ℕ} (span : ℕ) (s : Sizes p n) (short : n ≤ span) (r : List ℕ) {w : List ℕ} (e : w ≡ padded span n (place r)) where
   -- it has symbols only
-  pub word-stored : Stored p n r → Stored p 64 w
-  word-stored ok = subst (Stored p 64) (sym e) (widened-stored p 64 n r (omega (arith, s .n-high)) ok)
+  pub word-stored : Stored p n r → Stored p span w
+  word-stored ok = subst (Stored p span) (sym e) (widened-stored p span n r short ok)
 
   -- and is read from the table
-  pub word-read : {t₀ t : List ℕ} → Tabled p n w t₀ t → wordOf n t ≡ at n r
+  pub word-read : {stride : ℕ} {t₀ t : List ℕ} → Tabled stride p n w t₀ t → wordOf stride n t ≡ at n r
   word-read h =
-      fun-ext (λ j. h .word j ∙ ap (λ (w : List ℕ). at n w j) e ∙ widened-at 64 n r (s .n-low) (omega (arith, s .n-high)) j)
+      fun-ext (λ j. h .word j ∙ ap (λ (w : List ℕ). at n w j) e ∙ widened-at span n r (s .n-low) short j)

@@ -39,21 +39,21 @@ dual-small {p = p} ok {j} d =
 -- ---- one dual word
 
 -- the term of a place h
-abbrev termOf : List ℕ → (ℕ → ℕ) → ℕ → ℕ
-termOf logs b h = 128 * place logs (b h) + h
+abbrev termOf : ℕ → List ℕ → (ℕ → ℕ) → ℕ → ℕ
+termOf stride logs b h = stride * place logs (b h) + h
 
 -- the terms of the nonzero places below h are in the row that starts at `from`; `places` are these
-pub record Written (n : ℕ) (b : ℕ → ℕ) (from : ℕ) (terms₀ : List ℕ) (count h : ℕ) (terms : List ℕ) : Type 0 where
+pub record Written (stride n : ℕ) (b : ℕ → ℕ) (from : ℕ) (terms₀ : List ℕ) (count h : ℕ) (terms : List ℕ) : Type 0 where
   pub places : List ℕ
   pub listing : Listing 64 n b places count h
   pub symbol-pos : (i : ℕ) → i < count → 0 < b (place places i)
   pub long : length terms ≡ length terms₀
   pub low : (k : ℕ) → k < from → place terms k ≡ place terms₀ k
-  pub turn-at : (i : ℕ) → i < count → place terms (from + i) ≡ termOf terms₀ b (place places i)
+  pub turn-at : (i : ℕ) → i < count → place terms (from + i) ≡ termOf stride terms₀ b (place places i)
 
 -- before the first place
-pub written-none : (n : ℕ) (b : ℕ → ℕ) (from : ℕ) (terms : List ℕ) → Written n b from terms 0 0 terms
-written-none n b from terms =
+pub written-none : (stride n : ℕ) (b : ℕ → ℕ) (from : ℕ) (terms : List ℕ) → Written stride n b from terms 0 0 terms
+written-none stride n b from terms =
     record {
       places = replicate 64 0;
       listing = listing-none 64 n b;
@@ -85,8 +85,8 @@ byte-le : (t : Bool) → boolByte t ≤ 1
 byte-le true = omega arith
 byte-le false = omega arith
 
-module _ {n : ℕ} {b : ℕ → ℕ} {from : ℕ} {terms₀ : List ℕ} {count h : ℕ} {terms : List ℕ}
-    (s : Written n b from terms₀ count h terms) (few : n ≤ 63) (l : h < n) where
+module _ {stride n : ℕ} {b : ℕ → ℕ} {from : ℕ} {terms₀ : List ℕ} {count h : ℕ} {terms : List ℕ}
+    (s : Written stride n b from terms₀ count h terms) (few : n ≤ 63) (l : h < n) where
   -- the place written is in the room
   pub term-in : from + 64 ≤ length terms₀ → from + count < length terms
   term-in room = omega (arith, s .long, s .listing .count-le)
@@ -110,8 +110,8 @@ module _ {n : ℕ} {b : ℕ → ℕ} {from : ℕ} {terms₀ : List ℕ} {count h
       go z = old (decLt i count) z
 
   -- one more place
-  pub written-more : {v : ℕ} → from + 64 ≤ length terms₀ → v ≡ termOf terms₀ b h
-      → Written n b from terms₀ (count + boolByte (nonzero (b h))) (h + 1) (set terms (from + count) v)
+  pub written-more : {v : ℕ} → from + 64 ≤ length terms₀ → v ≡ termOf stride terms₀ b h
+      → Written stride n b from terms₀ (count + boolByte (nonzero (b h))) (h + 1) (set terms (from + count) v)
   written-more {v} room e =
       record {
         places = set (s .places) count h;
@@ -119,11 +119,11 @@ module _ {n : ℕ} {b : ℕ → ℕ} {from : ℕ} {terms₀ : List ℕ} {count h
         symbol-pos = positive;
         long = length-set terms (from + count) v ∙ s .long;
         low = λ k d. getD-set-other terms (from + count) k v 0 (omega arith) ∙ s .low k d;
-        turn-at = λ i d. row-more (termOf terms₀ b) from terms (s .places) free (term-in room) e (s .turn-at) i (omega (arith, byte-le (nonzero (b h))));
+        turn-at = λ i d. row-more (termOf stride terms₀ b) from terms (s .places) free (term-in room) e (s .turn-at) i (omega (arith, byte-le (nonzero (b h))));
       }
 
-module _ {bytes : List ℕ} {p n l : ℕ} (ok : DualIn bytes p n l) {terms₀ : List ℕ} {count h : ℕ} {terms : List ℕ}
-    (s : Written n (λ j. place bytes (71 + 64 * l + j)) (192 + 64 * l) terms₀ count h terms) where
+module _ {bytes : List ℕ} {stride p n l : ℕ} (ok : DualIn bytes p n l) {terms₀ : List ℕ} {count h : ℕ} {terms : List ℕ}
+    (s : Written stride n (λ j. place bytes (71 + 64 * l + j)) (192 + 64 * l) terms₀ count h terms) where
   -- the number read for the next symbol is the one that stood there
   pub log-kept : h < n → place terms (place bytes (71 + 64 * l + h)) ≡ place terms₀ (place bytes (71 + 64 * l + h))
   log-kept d = s .low _ (omega (arith, dual-small ok d))
@@ -148,7 +148,7 @@ module _ {bytes : List ℕ} {p n l : ℕ} (ok : DualIn bytes p n l) {terms₀ : 
       }
 
   -- after the last place
-  pub written-end : n ≤ h → DualListed bytes n l count terms₀ terms
+  pub written-end : n ≤ h → DualListed stride bytes n l count terms₀ terms
   unfolding listed
   written-end end =
       record {
@@ -156,7 +156,7 @@ module _ {bytes : List ℕ} {p n l : ℕ} (ok : DualIn bytes p n l) {terms₀ : 
         low = s .low;
         turns-of = record {
           places = listed end;
-          turn-at = λ i d. s .turn-at i d ∙ ap (λ (x : ℕ). 128 * place terms₀ x + place (s .places) i) (dual-byte ok (low end i d));
+          turn-at = λ i d. s .turn-at i d ∙ ap (λ (x : ℕ). stride * place terms₀ x + place (s .places) i) (dual-byte ok (low end i d));
         };
       }
 
@@ -171,20 +171,21 @@ pub record Based (p n duals : ℕ) (terms : List ℕ) : Type 0 where
   pub few : place terms 0 ≤ n
 
 -- with a row for each dual word
-pub terms-of : {p n duals : ℕ} {b : ℕ → ℕ → ℕ} {terms : List ℕ} → Based p n duals terms → ((l : ℕ) → l < duals → RowOf p n l (b l) terms)
-    → TermsOf p n duals b terms
-terms-of {p} {n} {duals} {b} {terms} h rows =
+pub terms-of : {stride p n duals : ℕ} {b : ℕ → ℕ → ℕ} {terms : List ℕ} → n + n ≤ stride → Based p n duals terms
+    → ((l : ℕ) → l < duals → RowOf stride p n l (b l) terms) → TermsOf stride p n duals b terms
+terms-of {stride} {p} {n} {duals} {b} {terms} fits h rows =
     record {
       numbers = record {
         sizes = h .sizes;
+        fits = fits;
         few-duals = h .few-duals;
         long = h .long;
         powers = h .powers;
         few = h .few;
         log-lt = λ l i d a.
             let t = rows l d .turns-of in
-            omega (arith, log-of (h .sizes) t i a, h .powers .log-lt _ (t .places .symbol-pos i a) (rows l d .symbol (t .places .place-at i)));
-        place-lt = λ l i d a. let t = rows l d .turns-of in omega (arith, place-of (h .sizes) t i a, t .places .place-lt i a);
+            omega (arith, log-of fits t i a, h .powers .log-lt _ (t .places .symbol-pos i a) (rows l d .symbol (t .places .place-at i)));
+        place-lt = λ l i d a. let t = rows l d .turns-of in omega (arith, place-of fits t i a, t .places .place-lt i a);
       };
       row-of = rows;
     }
@@ -192,13 +193,13 @@ terms-of {p} {n} {duals} {b} {terms} h rows =
 -- ---- one dual word after another
 
 -- the terms go by what is read
-turns-same : {n : ℕ} {b : ℕ → ℕ} {logs logs′ : List ℕ} {w : ℕ} {f g : ℕ → ℕ} → Turns n b logs w f
-    → ((j : ℕ) → 0 < b j → place logs′ (b j) ≡ place logs (b j)) → ((i : ℕ) → i < w → g i ≡ f i) → Turns n b logs′ w g
-turns-same h same e =
+turns-same : {stride n : ℕ} {b : ℕ → ℕ} {logs logs′ : List ℕ} {w : ℕ} {f g : ℕ → ℕ} → Turns stride n b logs w f
+    → ((j : ℕ) → 0 < b j → place logs′ (b j) ≡ place logs (b j)) → ((i : ℕ) → i < w → g i ≡ f i) → Turns stride n b logs′ w g
+turns-same {stride} h same e =
     record {
       places = h .places;
       turn-at = λ i l.
-          e i l ∙ h .turn-at i l ∙ ap (λ (x : ℕ). 128 * x + h .places .place-at i) (sym (same (h .places .place-at i) (h .places .symbol-pos i l)));
+          e i l ∙ h .turn-at i l ∙ ap (λ (x : ℕ). stride * x + h .places .place-at i) (sym (same (h .places .place-at i) (h .places .symbol-pos i l)));
     }
 
 -- so do powers and logarithms
@@ -212,16 +213,16 @@ powers-same {p} high h same =
     }
 
 -- the dual words below l are listed, and `last` is the weight found last; the numbers below the rows are as before
-pub record ListedTo (bytes : List ℕ) (n duals : ℕ) (terms₀ : List ℕ) (last l : ℕ) (terms : List ℕ) : Type 0 where
+pub record ListedTo (stride : ℕ) (bytes : List ℕ) (n duals : ℕ) (terms₀ : List ℕ) (last l : ℕ) (terms : List ℕ) : Type 0 where
   pub within : l ≤ duals
   pub long : length terms ≡ length terms₀
   pub low : (k : ℕ) → k < 192 → place terms k ≡ place terms₀ k
   pub last-is : 0 < l → last ≡ weight n (dualOf bytes 0)
-  pub turns-of : (i : ℕ) → i < l → Turns n (dualOf bytes i) terms₀ (weight n (dualOf bytes 0)) (term terms i)
+  pub turns-of : (i : ℕ) → i < l → Turns stride n (dualOf bytes i) terms₀ (weight n (dualOf bytes 0)) (term terms i)
 
 -- before the first
-pub listed-none : (bytes : List ℕ) (n duals : ℕ) (terms : List ℕ) (last : ℕ) → ListedTo bytes n duals terms last 0 terms
-listed-none bytes n duals terms last =
+pub listed-none : (stride : ℕ) (bytes : List ℕ) (n duals : ℕ) (terms : List ℕ) (last : ℕ) → ListedTo stride bytes n duals terms last 0 terms
+listed-none stride bytes n duals terms last =
     record {
       within = zero-le;
       long = refl;
@@ -230,8 +231,8 @@ listed-none bytes n duals terms last =
       turns-of = λ i l. absurd (not-suc-le-zero l);
     }
 
-module _ {bytes : List ℕ} {p n duals : ℕ} (ok : Listable bytes p n duals) {old terms₀ : List ℕ} (room : 2240 ≤ length old) (put : PowersPut p old terms₀)
-    {last l : ℕ} {terms : List ℕ} (h : ListedTo bytes n duals terms₀ last l terms) where
+module _ {bytes : List ℕ} {stride p n duals : ℕ} (ok : Listable bytes p n duals) {old terms₀ : List ℕ} (room : 2240 ≤ length old)
+    (put : PowersPut p old terms₀) {last l : ℕ} {terms : List ℕ} (h : ListedTo stride bytes n duals terms₀ last l terms) where
   -- there are at most 64 symbols
   most : 2 ^ p ≤ 64
   most = pow-mono (ok .sizes .p-high)
@@ -252,7 +253,8 @@ module _ {bytes : List ℕ} {p n duals : ℕ} (ok : Listable bytes p n duals) {o
       number c a (no z) = omega (arith, put .powers .log-lt c (omega arith) a, most)
 
   -- one more
-  pub listed-more : {w : ℕ} {terms′ : List ℕ} → l < duals → DualListed bytes n l w terms terms′ → ListedTo bytes n duals terms₀ w (l + 1) terms′
+  pub listed-more : {w : ℕ} {terms′ : List ℕ} → l < duals → DualListed stride bytes n l w terms terms′
+      → ListedTo stride bytes n duals terms₀ w (l + 1) terms′
   listed-more {w} {terms′} d more =
       record {
         within = omega arith;
@@ -260,8 +262,8 @@ module _ {bytes : List ℕ} {p n duals : ℕ} (ok : Listable bytes p n duals) {o
         low = λ k a. more .low k (omega arith) ∙ h .low k a;
         last-is = λ _. one;
         turns-of = λ i a. ⊎-elim
-            (λ q. subst (λ (i : ℕ). Turns n (dualOf bytes i) terms₀ all (term terms′ i)) (sym q)
-            (subst (λ (x : ℕ). Turns n (dualOf bytes l) terms₀ x (term terms′ l)) one
+            (λ q. subst (λ (i : ℕ). Turns stride n (dualOf bytes i) terms₀ all (term terms′ i)) (sym q)
+            (subst (λ (x : ℕ). Turns stride n (dualOf bytes l) terms₀ x (term terms′ l)) one
             (turns-same (more .turns-of) (λ j _. sym (h .low _ (omega (arith, ok .symbol l j d, most)))) (λ i _. refl))))
             (λ a. turns-same (h .turns-of i a) (λ j _. refl) (λ k c. more .low (192 + 64 * i + k) (below i k a (h .turns-of i a .places .few) c)))
             (eq-or-lt-of-le (le-of-suc-le-suc (subst (λ (m : ℕ). i < m) (add-one l) a)));
@@ -289,9 +291,9 @@ module _ {bytes : List ℕ} {p n duals : ℕ} (ok : Listable bytes p n duals) {o
     pub listed-long : length (set terms 0 last) ≡ length old
     listed-long = length-set terms 0 last ∙ h .long ∙ put .long
 
-    pub listed-end : TermsOf p n duals (dualOf bytes) (set terms 0 last)
-    listed-end =
-        terms-of (record { sizes = ok .sizes; few-duals = ok .duals-high; long = omega (arith, listed-long, room); few = few; powers = powers }) rows
+    pub listed-end : n + n ≤ stride → TermsOf stride p n duals (dualOf bytes) (set terms 0 last)
+    listed-end fits =
+        terms-of fits (record { sizes = ok .sizes; few-duals = ok .duals-high; long = omega (arith, listed-long, room); few = few; powers = powers }) rows
       where
         first : place (set terms 0 last) 0 ≡ last
         first = getD-set-same terms 0 last 0 (omega (arith, h .long, put .long, room))
@@ -305,11 +307,11 @@ module _ {bytes : List ℕ} {p n duals : ℕ} (ok : Listable bytes p n duals) {o
         powers : PowersOf p (set terms 0 last)
         powers = powers-same (ok .sizes .p-high) (put .powers) (λ k pos a. after k pos ∙ h .low k a)
 
-        rows : (l : ℕ) → l < duals → RowOf p n l (dualOf bytes l) (set terms 0 last)
+        rows : (l : ℕ) → l < duals → RowOf stride p n l (dualOf bytes l) (set terms 0 last)
         rows i a =
             record {
               symbol = λ j. ok .symbol i j a;
-              turns-of = subst (λ (x : ℕ). Turns n (dualOf bytes i) (set terms 0 last) x (term (set terms 0 last) i)) (sym (first ∙ last-weight))
+              turns-of = subst (λ (x : ℕ). Turns stride n (dualOf bytes i) (set terms 0 last) x (term (set terms 0 last) i)) (sym (first ∙ last-weight))
                   (turns-same (h .turns-of i (omega arith)) (λ j pos. after _ pos ∙ h .low _ (omega (arith, ok .symbol i j a, most)))
                   (λ k _. after (192 + 64 * i + k) (omega arith)));
             }
@@ -317,6 +319,7 @@ module _ {bytes : List ℕ} {p n duals : ℕ} (ok : Listable bytes p n duals) {o
 -- ---- a room that is kept
 
 -- where the weight is not 0, the terms are listed
-pub still-listed : {p n duals : ℕ} {b : ℕ → ℕ → ℕ} {terms : List ℕ} → Kept p n duals b terms → (place terms 0 ≡ 0 → ⊥) → TermsOf p n duals b terms
+pub still-listed : {stride p n duals : ℕ} {b : ℕ → ℕ → ℕ} {terms : List ℕ} → Kept stride p n duals b terms → (place terms 0 ≡ 0 → ⊥)
+    → TermsOf stride p n duals b terms
 still-listed (unlisted z) h = absurd (h z)
 still-listed (already t) h = t

@@ -114,9 +114,10 @@ module _ {p n : ℕ} {b : ℕ → ℕ → ℕ} {duals w : ℕ} {r : ℕ → ℕ}
 -- ---- the dual words whose terms a room has
 
 -- each has the weight that stands there
-pub terms-weight : {p n duals : ℕ} {b : ℕ → ℕ → ℕ} {terms : List ℕ} → TermsOf p n duals b terms → (l : ℕ) → l < duals → weight n (b l) ≡ place terms 0
+pub terms-weight : {stride p n duals : ℕ} {b : ℕ → ℕ → ℕ} {terms : List ℕ} → TermsOf stride p n duals b terms → (l : ℕ) → l < duals
+    → weight n (b l) ≡ place terms 0
 terms-weight h l d = places-weight (h .row-of l d .turns-of .places)
 
 -- a column's sum is at most 2016
-pub all-le : {p n duals : ℕ} {terms : List ℕ} → Terms p n duals terms → duals * place terms 0 ≤ 2016
+pub all-le : {stride p n duals : ℕ} {terms : List ℕ} → Terms stride p n duals terms → duals * place terms 0 ≤ 2016
 all-le {n = n} {terms = terms} h = let small : place terms 0 ≤ 63 = omega (arith, h .few, h .sizes .n-high) in mul-le-mul (h .few-duals) small

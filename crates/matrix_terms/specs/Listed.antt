@@ -32,7 +32,7 @@ pub record Listable (bytes : List ℕ) (p n duals : ℕ) : Type 0 where
   pub one-weight : (l : ℕ) → l < duals → weight n (dualOf bytes l) ≡ weight n (dualOf bytes 0)
 
 -- row l became the terms of dual word l, which has the weight w; the numbers below it and the length are as before
-pub record DualListed (bytes : List ℕ) (n l w : ℕ) (terms₀ terms : List ℕ) : Type 0 where
+pub record DualListed (stride : ℕ) (bytes : List ℕ) (n l w : ℕ) (terms₀ terms : List ℕ) : Type 0 where
   pub long : length terms ≡ length terms₀
   pub low : (k : ℕ) → k < 192 + 64 * l → place terms k ≡ place terms₀ k
-  pub turns-of : Turns n (dualOf bytes l) terms₀ w (term terms l)
+  pub turns-of : Turns stride n (dualOf bytes l) terms₀ w (term terms l)

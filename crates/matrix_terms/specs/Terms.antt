@@ -1,6 +1,6 @@
 -- A room of numbers that belongs to an opened book, made once for many matrices. Number 0 is the weight of the dual words, 0 where nothing is listed
 -- yet; the logarithms of the symbols follow, each at the place of its symbol, and from 64 on the powers of x. From 192 on each dual word has a row of 64
--- terms: one for each nonzero place h, 128 times the logarithm of its symbol and h.
+-- terms: one for each nonzero place h, `stride` times the logarithm of its symbol and h.
 -- Assumes nothing.
 use mathlib.Core.Path.{_≡_}
 use mathlib.Core.Bool.{cond}
@@ -23,9 +23,9 @@ pub record Places (n : ℕ) (b : ℕ → ℕ) (weight : ℕ) : Type 0 where
       → fold op e weight (λ i. f (place-at i)) ≡ fold op e n (λ h. cond (nonzero (b h)) (f h) e)
 
 -- `turns` has for each nonzero place h where place h of row log (b h) is
-pub record Turns (n : ℕ) (b : ℕ → ℕ) (logs : List ℕ) (weight : ℕ) (turns : ℕ → ℕ) : Type 0 where
+pub record Turns (stride n : ℕ) (b : ℕ → ℕ) (logs : List ℕ) (weight : ℕ) (turns : ℕ → ℕ) : Type 0 where
   pub places : Places n b weight
-  pub turn-at : (i : ℕ) → i < weight → turns i ≡ 128 * place logs (b (places .place-at i)) + places .place-at i
+  pub turn-at : (i : ℕ) → i < weight → turns i ≡ stride * place logs (b (places .place-at i)) + places .place-at i
 
 -- dual word l of a book's bytes, with the period n
 abbrev pub dualOf : List ℕ → ℕ → ℕ → ℕ
@@ -36,33 +36,34 @@ abbrev pub term : List ℕ → ℕ → ℕ → ℕ
 term terms l i = place terms (192 + 64 * l + i)
 
 -- what makes the reads of a room safe, about its numbers alone
-pub record Terms (p n duals : ℕ) (terms : List ℕ) : Type 0 where
+pub record Terms (stride p n duals : ℕ) (terms : List ℕ) : Type 0 where
   pub sizes : Sizes p n
+  pub fits : n + n ≤ stride
   pub few-duals : duals ≤ 32
   pub long : 2240 ≤ length terms
   pub powers : PowersOf p terms
   pub few : place terms 0 ≤ n
-  pub log-lt : (l i : ℕ) → l < duals → i < place terms 0 → term terms l i / 128 + 1 < 2 ^ p
-  pub place-lt : (l i : ℕ) → l < duals → i < place terms 0 → term terms l i % 128 < n
+  pub log-lt : (l i : ℕ) → l < duals → i < place terms 0 → term terms l i / stride + 1 < 2 ^ p
+  pub place-lt : (l i : ℕ) → l < duals → i < place terms 0 → term terms l i % stride < n
 
 -- row l has the terms of the word b
-pub record RowOf (p n l : ℕ) (b : ℕ → ℕ) (terms : List ℕ) : Type 0 where
+pub record RowOf (stride p n l : ℕ) (b : ℕ → ℕ) (terms : List ℕ) : Type 0 where
   pub symbol : (j : ℕ) → b j < 2 ^ p
-  pub turns-of : Turns n b terms (place terms 0) (term terms l)
+  pub turns-of : Turns stride n b terms (place terms 0) (term terms l)
 
 -- the room has the terms of the first `duals` of the dual words b
-pub record TermsOf (p n duals : ℕ) (b : ℕ → ℕ → ℕ) (terms : List ℕ) : Type 0 where
-  pub numbers : Terms p n duals terms
-  pub row-of : (l : ℕ) → l < duals → RowOf p n l (b l) terms
+pub record TermsOf (stride p n duals : ℕ) (b : ℕ → ℕ → ℕ) (terms : List ℕ) : Type 0 where
+  pub numbers : Terms stride p n duals terms
+  pub row-of : (l : ℕ) → l < duals → RowOf stride p n l (b l) terms
 
 -- nothing is listed in the room yet, or these are the terms
-pub data Kept (p n duals : ℕ) (b : ℕ → ℕ → ℕ) (terms : List ℕ) : Type 0 where
-  unlisted : place terms 0 ≡ 0 → Kept p n duals b terms
-  already : TermsOf p n duals b terms → Kept p n duals b terms
+pub data Kept (stride p n duals : ℕ) (b : ℕ → ℕ → ℕ) (terms : List ℕ) : Type 0 where
+  unlisted : place terms 0 ≡ 0 → Kept stride p n duals b terms
+  already : TermsOf stride p n duals b terms → Kept stride p n duals b terms
 
 -- what filling a matrix m of the word r asks: the room has the terms of some dual words
-pub record Filling (p n duals : ℕ) (terms r m : List ℕ) : Type 0 where
+pub record Filling (stride p n duals : ℕ) (terms r m : List ℕ) : Type 0 where
   pub words : ℕ → ℕ → ℕ
-  pub terms-of : TermsOf p n duals words terms
+  pub terms-of : TermsOf stride p n duals words terms
   pub word : Stored p n r
   pub size : length m ≡ 2 ^ p * n

@@ -35,7 +35,7 @@ pub fn room() -> [u16; TERMS]
 // Puts the terms of dual word l into its row: that of each place is written, and stays where its symbol is not zero and the count goes on.
 fn list_dual(book: &[u8], p: u8, n: usize, l: usize, terms: &mut [u16]) -> usize
     requires { ⌜ DualIn (now book) p n l × RowIn p l (now terms) ⌝ }
-    ensures { λ r. ⌜ DualListed (now (book .entry)) n l r (now (terms .entry)) (now (terms .exit)) ⌝ }
+    ensures { λ r. ⌜ DualListed 128 (now (book .entry)) n l r (now (terms .entry)) (now (terms .exit)) ⌝ }
 {
     let start = BODIES_AT + RECORD * l;
     let from = TERMS_AT + SPAN * l;
@@ -53,7 +53,7 @@ fn list_dual(book: &[u8], p: u8, n: usize, l: usize, terms: &mut [u16]) -> usize
 // Lists the terms of every dual word. The weight comes last, so that number 0 is 0 until they stand.
 pub fn list(book: &[u8], p: u8, n: usize, duals: usize, terms: &mut [u16])
     requires { ⌜ Listable (now book) p n duals × (2240 ≤ length (now terms)) ⌝ }
-    ensures { λ _. ⌜ TermsOf p n duals (dualOf (now (book .entry))) (now (terms .exit)) × (length (now (terms .exit)) ≡ length (now (terms .entry))) ⌝ }
+    ensures { λ _. ⌜ TermsOf 128 p n duals (dualOf (now (book .entry))) (now (terms .exit)) × (length (now (terms .exit)) ≡ length (now (terms .entry))) ⌝ }
 {
     field_powers::put(p, terms);
     let mut weight: usize = 0;
@@ -67,8 +67,8 @@ pub fn list(book: &[u8], p: u8, n: usize, duals: usize, terms: &mut [u16])
 
 // Lists the terms where nothing is listed yet.
 pub fn ready(book: &[u8], p: u8, n: usize, duals: usize, terms: &mut [u16])
-    requires { ⌜ Listable (now book) p n duals × (2240 ≤ length (now terms)) × Kept p n duals (dualOf (now book)) (now terms) ⌝ }
-    ensures { λ _. ⌜ TermsOf p n duals (dualOf (now (book .entry))) (now (terms .exit)) × (length (now (terms .exit)) ≡ length (now (terms .entry))) ⌝ }
+    requires { ⌜ Listable (now book) p n duals × (2240 ≤ length (now terms)) × Kept 128 p n duals (dualOf (now book)) (now terms) ⌝ }
+    ensures { λ _. ⌜ TermsOf 128 p n duals (dualOf (now (book .entry))) (now (terms .exit)) × (length (now (terms .exit)) ≡ length (now (terms .entry))) ⌝ }
 {
     if terms[0] == 0 {
         list(book, p, n, duals, terms);
@@ -77,8 +77,8 @@ pub fn ready(book: &[u8], p: u8, n: usize, duals: usize, terms: &mut [u16])
 
 // The product of the word whose terms are in row l and the word of the table t: the sum of the table's places that each term tells.
 pub fn product(l: usize, p: u8, n: usize, duals: usize, terms: &[u16], t: &[u8]) -> [u8; SPAN]
-    requires { ⌜ Terms p n duals (now terms) × (l < duals) × Multiples p n (now t) ⌝ }
-    ensures { λ r. ⌜ ((b : ℕ → ℕ) → RowOf p n l b (now (terms .entry)) → Multiplied p n b (wordOf n (now (t .entry))) r) ⌝ }
+    requires { ⌜ Terms 128 p n duals (now terms) × (l < duals) × Multiples 128 p n (now t) ⌝ }
+    ensures { λ r. ⌜ ((b : ℕ → ℕ) → RowOf 128 p n l b (now (terms .entry)) → Multiplied 64 p n b (wordOf 128 n (now (t .entry))) r) ⌝ }
 {
     let weight = terms[0] as usize;
     let from = TERMS_AT + SPAN * l;

@@ -31,6 +31,7 @@ use Rattle.spec_word.proofs.Quotient.{prefix-below, quotientAt, quotient-at, qu
 use Rattle.word_array.specs.Stored.{place, Sizes, Stored}
 use Rattle.word_array.proofs.Filled.{read-padded}
 use Rattle.word_table.specs.Multiples.{entry, wordOf, Remains}
+use Rattle.word_table.proofs.Rows.{rows-apart}
 use Rattle.word_divide.specs.Window.{Dividend, AddedAt, DividedBy}
 
 -- ---- a row added from place i on
@@ -107,44 +108,44 @@ module _ (F : FieldOps) (d : ℕ) (g : ℕ → ℕ) where
 -- ---- the loop
 
 -- of v₀'s k coefficients i are left; q has the quotient's places from i on
-pub record Window (p n d k : ℕ) (t v₀ : List ℕ) (i : ℕ) (q v : List ℕ) : Type 0 where
+pub record Window (stride span p n d k : ℕ) (t v₀ : List ℕ) (i : ℕ) (q v : List ℕ) : Type 0 where
   pub within : i + d ≤ k
-  pub long : length v ≡ 128
+  pub long : length v ≡ stride
   pub symbols : Stored p (i + d) v
   pub low : (j : ℕ) → j < i → place v j ≡ place v₀ j
-  pub rest : (j : ℕ) → j < d → place v (i + j) ≡ above (gf p) d (wordOf n t) k (place v₀) i j
-  pub room : length q ≡ 64
-  pub quotient : (j : ℕ) → i ≤ j → j < k - d → place q j ≡ quotientAt (gf p) d (wordOf n t) k (place v₀) j
+  pub rest : (j : ℕ) → j < d → place v (i + j) ≡ above (gf p) d (wordOf stride n t) k (place v₀) i j
+  pub room : length q ≡ span
+  pub quotient : (j : ℕ) → i ≤ j → j < k - d → place q j ≡ quotientAt (gf p) d (wordOf stride n t) k (place v₀) j
 
-module _ {p n d k : ℕ} {t v₀ : List ℕ} (ok : Dividend p n d k t v₀) where
-  open Dividend ok using (sizes, degree-pos, degree-lt, k-low, k-high, multiples)
+module _ {stride span p n d k : ℕ} {t v₀ : List ℕ} (ok : Dividend stride span p n d k t v₀) where
+  open Dividend ok using (sizes, degree-pos, degree-lt, k-low, k-high, span-high, multiples)
 
   laws : FieldLaws (gf p)
   laws = gf-laws p (sizes .p-low) (sizes .p-high)
 
-  pub window-start : Window p n d k t v₀ (k - d) (replicate 64 0) v₀
+  pub window-start : Window stride span p n d k t v₀ (k - d) (replicate span 0) v₀
   window-start =
       record {
         within = omega arith;
         long = ok .long;
         symbols = record { symbol = λ j b. ok .symbols .symbol j (omega arith) };
         low = λ j b. refl;
-        rest = λ j b. sym (above-start (gf p) d (wordOf n t) laws degree-pos k (place v₀) k-low j b);
-        room = length-replicate {A = ℕ} 64 0;
+        rest = λ j b. sym (above-start (gf p) d (wordOf stride n t) laws degree-pos k (place v₀) k-low j b);
+        room = length-replicate {A = ℕ} span 0;
         quotient = λ j a b. absurd (lt-irrefl j (omega arith));
       }
 
-  module _ {i : ℕ} {q v : List ℕ} (h : Window p n d k t v₀ i q v) where
-    pub window-end : i ≤ 0 → DividedBy p k d (wordOf n t) (place v₀) q v
+  module _ {i : ℕ} {q v : List ℕ} (h : Window stride span p n d k t v₀ i q v) where
+    pub window-end : i ≤ 0 → DividedBy stride span p k d (wordOf stride n t) (place v₀) q v
     window-end l =
         let e : i ≡ 0 = omega arith in
         record {
           remains = record {
             places = λ j b.
-                ap (place v) (omega arith) ∙ h .rest j b ∙ ap (λ (i : ℕ). above (gf p) d (wordOf n t) k (place v₀) i j) e
-                ∙ above-all (gf p) d (wordOf n t) k (place v₀) j ∙ sym (remainder-at (gf p) d (wordOf n t) laws k (place v₀) j b);
+                ap (place v) (omega arith) ∙ h .rest j b ∙ ap (λ (i : ℕ). above (gf p) d (wordOf stride n t) k (place v₀) i j) e
+                ∙ above-all (gf p) d (wordOf stride n t) k (place v₀) j ∙ sym (remainder-at (gf p) d (wordOf stride n t) laws k (place v₀) j b);
           };
-          places = λ j b. h .quotient j (omega arith) b ∙ sym (quotient-at (gf p) d (wordOf n t) laws degree-pos k (place v₀) j);
+          places = λ j b. h .quotient j (omega arith) b ∙ sym (quotient-at (gf p) d (wordOf stride n t) laws degree-pos k (place v₀) j);
           room = h .room;
           long = h .long;
         }
@@ -153,42 +154,42 @@ module _ {p n d k : ℕ} {t v₀ : List ℕ} (ok : Dividend p n d k t v₀) wher
       top-symbol : c < 2 ^ p
       top-symbol = subst (λ (x : ℕ). x < 2 ^ p) (sym e) (h .symbols .symbol (i - 1 + d) (omega arith))
 
-      pub row-within : 128 * c + 64 ≤ length t
-      row-within = omega (arith, top-symbol, multiples .size)
+      pub row-within : stride * c + span ≤ length t
+      row-within = omega (arith, rows-apart stride top-symbol, multiples .size)
 
       -- the remainder so far, with the next coefficient below it
-      shifted : (j : ℕ) → j < d → place v (i - 1 + j) ≡ before (place v₀ (i - 1)) (above (gf p) d (wordOf n t) k (place v₀) i) j
+      shifted : (j : ℕ) → j < d → place v (i - 1 + j) ≡ before (place v₀ (i - 1)) (above (gf p) d (wordOf stride n t) k (place v₀) i) j
       unfolding before
       shifted zero l = ap (place v) (omega arith) ∙ h .low (i - 1) (omega arith)
       shifted (suc j) l = ap (place v) (omega arith) ∙ h .rest j (omega arith)
 
-      top : place v (i - 1 + d) ≡ above (gf p) d (wordOf n t) k (place v₀) i (pred d)
+      top : place v (i - 1 + d) ≡ above (gf p) d (wordOf stride n t) k (place v₀) i (pred d)
       top = ap (place v) (omega arith) ∙ h .rest (pred d) (omega arith)
 
-      multiple : (j : ℕ) → j < d → entry t c j ≡ symbols.product p (above (gf p) d (wordOf n t) k (place v₀) i (pred d)) (wordOf n t j)
+      multiple : (j : ℕ) → j < d → entry stride t c j ≡ symbols.product p (above (gf p) d (wordOf stride n t) k (place v₀) i (pred d)) (wordOf stride n t j)
       multiple j l =
           multiples .multiple c j top-symbol (omega arith)
-          ∙ ap (λ (x : ℕ). symbols.product p x (wordOf n t j)) (e ∙ top)
+          ∙ ap (λ (x : ℕ). symbols.product p x (wordOf stride n t j)) (e ∙ top)
 
-      reduced-at : (j : ℕ) → j < d → bitXor (place v (i - 1 + j)) (entry t c j) ≡ above (gf p) d (wordOf n t) k (place v₀) (i - 1) j
+      reduced-at : (j : ℕ) → j < d → bitXor (place v (i - 1 + j)) (entry stride t c j) ≡ above (gf p) d (wordOf stride n t) k (place v₀) (i - 1) j
       unfolding reduce
       reduced-at j l =
-          ap₂ bitXor (shifted j l) (multiple j l) ∙ above-step (gf p) d (wordOf n t) k (place v₀) i left (omega (arith, h .within)) j
+          ap₂ bitXor (shifted j l) (multiple j l) ∙ above-step (gf p) d (wordOf stride n t) k (place v₀) i left (omega (arith, h .within)) j
 
-      top-quotient : place v (i - 1 + d) ≡ quotientAt (gf p) d (wordOf n t) k (place v₀) (i - 1)
+      top-quotient : place v (i - 1 + d) ≡ quotientAt (gf p) d (wordOf stride n t) k (place v₀) (i - 1)
       top-quotient =
-          top ∙ ap (λ (m : ℕ). above (gf p) d (wordOf n t) k (place v₀) m (pred d)) (omega arith)
-          ∙ above-top (gf p) d (wordOf n t) k (place v₀) (i - 1) (omega (arith, h .within))
+          top ∙ ap (λ (m : ℕ). above (gf p) d (wordOf stride n t) k (place v₀) m (pred d)) (omega arith)
+          ∙ above-top (gf p) d (wordOf stride n t) k (place v₀) (i - 1) (omega (arith, h .within))
 
-      pub window-more : {v′ : List ℕ} → AddedAt t (128 * c) (i - 1) 64 v v′
-          → Window p n d k t v₀ (i - 1) (set q (i - 1) (place v (i - 1 + d))) v′
+      pub window-more : {v′ : List ℕ} → AddedAt t (stride * c) (i - 1) span v v′
+          → Window stride span p n d k t v₀ (i - 1) (set q (i - 1) (place v (i - 1 + d))) v′
       window-more {v′} a =
           record {
             within = omega (arith, h .within);
             long = a .long ∙ h .long;
             symbols = record { symbol = λ j l. symbol j l (decLt j (i - 1)) };
             low = λ j l. a .low j l ∙ h .low j (omega arith);
-            rest = λ j l. a .added j (omega (arith, sizes .n-high)) ∙ reduced-at j l;
+            rest = λ j l. a .added j (omega arith) ∙ reduced-at j l;
             room = length-set q (i - 1) _ ∙ h .room;
             quotient = λ j b l. written j b l (ℕ-discrete j (i - 1));
           }
@@ -196,9 +197,9 @@ module _ {p n d k : ℕ} {t v₀ : List ℕ} (ok : Dividend p n d k t v₀) wher
           q′ : List ℕ
           q′ = set q (i - 1) (place v (i - 1 + d))
 
-          written : (j : ℕ) → i - 1 ≤ j → j < k - d → Dec (j ≡ i - 1) → place q′ j ≡ quotientAt (gf p) d (wordOf n t) k (place v₀) j
+          written : (j : ℕ) → i - 1 ≤ j → j < k - d → Dec (j ≡ i - 1) → place q′ j ≡ quotientAt (gf p) d (wordOf stride n t) k (place v₀) j
           written j b l (yes r) =
-              subst (λ (j : ℕ). place q′ j ≡ quotientAt (gf p) d (wordOf n t) k (place v₀) j) (sym r)
+              subst (λ (j : ℕ). place q′ j ≡ quotientAt (gf p) d (wordOf stride n t) k (place v₀) j) (sym r)
               (getD-set-same q (i - 1) _ 0 (omega (arith, h .room, h .within, k-high)) ∙ top-quotient)
           written j b l (no r) = getD-set-other q (i - 1) j _ 0 r ∙ h .quotient j (omega arith) l
 
@@ -208,8 +209,8 @@ module _ {p n d k : ℕ} {t v₀ : List ℕ} (ok : Dividend p n d k t v₀) wher
               let m : ℕ = j - (i - 1) in
               let q : i - 1 + m ≡ j = omega arith in
               subst (λ (j : ℕ). place v′ j < 2 ^ p) q
-              (subst (λ (x : ℕ). x < 2 ^ p) (sym (a .added m (omega (arith, sizes .n-high))))
-              (laws .add-below _ _ (h .symbols .symbol (i - 1 + m) (omega arith)) (multiples .symbol c m top-symbol (omega (arith, sizes .n-high)))))
+              (subst (λ (x : ℕ). x < 2 ^ p) (sym (a .added m (omega arith)))
+              (laws .add-below _ _ (h .symbols .symbol (i - 1 + m) (omega arith)) (multiples .symbol c m top-symbol (omega arith))))
 
 -- ---- an array that holds a word, and what is left of it
 
@@ -217,7 +218,8 @@ module _ {p size k : ℕ} {w : ℕ → ℕ} {v : List ℕ} (e : v ≡ padded siz
   pub padded-stored : ((j : ℕ) → j < k → w j < 2 ^ p) → Stored p k v
   padded-stored h = record { symbol = λ j b. subst (λ (x : ℕ). x < 2 ^ p) (sym (read-padded w e l b)) (h j b) }
 
-  pub padded-divided : {n d : ℕ} {g : ℕ → ℕ} {q r : List ℕ} → Sizes p n → 1 ≤ d → DividedBy p k d g (place v) q r → DividedBy p k d g w q r
+  pub padded-divided : {stride span n d : ℕ} {g : ℕ → ℕ} {q r : List ℕ} → Sizes p n → 1 ≤ d → DividedBy stride span p k d g (place v) q r
+      → DividedBy stride span p k d g w q r
   padded-divided {d = d} {g} sizes pos h =
       let laws = gf-laws p (sizes .p-low) (sizes .p-high) in
       let same : (j : ℕ) → j < k → place v j ≡ w j = λ j b. read-padded w e l b in

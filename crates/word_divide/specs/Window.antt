@@ -11,15 +11,16 @@ use Rattle.word_array.specs.Stored.{place, Sizes, Stored}
 use Rattle.word_table.specs.Multiples.{Multiples, Remains}
 
 -- v has k symbols to divide, t the multiples of a word whose first d places are those of the divisor, which has degree d
-pub record Dividend (p n d k : ℕ) (t v : List ℕ) : Type 0 where
+pub record Dividend (stride span p n d k : ℕ) (t v : List ℕ) : Type 0 where
   pub sizes : Sizes p n
   pub degree-pos : 1 ≤ d
   pub degree-lt : d < n
   pub k-low : d ≤ k
-  pub k-high : k ≤ 64
+  pub k-high : k ≤ span
+  pub span-high : span ≤ stride
   pub symbols : Stored p k v
-  pub multiples : Multiples p n t
-  pub long : length v ≡ 128
+  pub multiples : Multiples stride p n t
+  pub long : length v ≡ stride
 
 -- v is v₀ with `count` places of t, from `from` on, added to those from i on
 pub record AddedAt (t : List ℕ) (from i count : ℕ) (v₀ v : List ℕ) : Type 0 where
@@ -28,9 +29,9 @@ pub record AddedAt (t : List ℕ) (from i count : ℕ) (v₀ v : List ℕ) : Typ
   pub added : (j : ℕ) → j < count → place v (i + j) ≡ bitXor (place v₀ (i + j)) (place t (from + j))
   pub high : (k : ℕ) → i + count ≤ k → place v k ≡ place v₀ k
 
--- q, of 64 places, starts with the quotient of the k coefficients of w by g, of degree d, and r, of 128, with the remainder
-pub record DividedBy (p k d : ℕ) (g w : ℕ → ℕ) (q r : List ℕ) : Type 0 where
+-- q, of `span` places, starts with the quotient of the k coefficients of w by g, of degree d, and r, of `stride`, with the remainder
+pub record DividedBy (stride span p k d : ℕ) (g w : ℕ → ℕ) (q r : List ℕ) : Type 0 where
   pub remains : Remains p k d g w r
   pub places : (i : ℕ) → i < k - d → place q i ≡ coefficients (quotient (gf p) d g k w) i
-  pub room : length q ≡ 64
-  pub long : length r ≡ 128
+  pub room : length q ≡ span
+  pub long : length r ≡ stride

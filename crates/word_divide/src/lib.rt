@@ -46,8 +46,8 @@ fn add_row_at(t: &[u8], from: usize, i: usize, v: &mut [u8; STRIDE])
 // Divides the k lowest coefficients of v by the table's word g, of degree d: leaves the remainder in the first d places of v and hands back the quotient.
 // The d highest coefficients are their own remainder, and each top of the window is a coefficient of the quotient.
 fn divide_in(p: u8, n: usize, d: usize, k: usize, t: &[u8], v: &mut [u8; STRIDE]) -> [u8; SPAN]
-    requires { ⌜ Dividend p n d k (now t) (now v) ⌝ }
-    ensures { λ r. ⌜ DividedBy p k d (wordOf n (now (t .entry))) (place (now (v .entry))) r (now (v .exit)) ⌝ }
+    requires { ⌜ Dividend 128 64 p n d k (now t) (now v) ⌝ }
+    ensures { λ r. ⌜ DividedBy 128 64 p k d (wordOf 128 n (now (t .entry))) (place (now (v .entry))) r (now (v .exit)) ⌝ }
 {
     let mut quotient = [0u8; SPAN];
     let mut i = k - d;
@@ -62,8 +62,8 @@ fn divide_in(p: u8, n: usize, d: usize, k: usize, t: &[u8], v: &mut [u8; STRIDE]
 
 // The division of the n coefficients of w by the table's word g, of degree d.
 pub fn divide(p: u8, n: usize, d: usize, t: &[u8], w: Word) -> Divided
-    requires { ⌜ Sizes p n × (1 ≤ d) × (d < n) × Stored p n w × Multiples p n (now t) ⌝ }
-    ensures { λ r. ⌜ DividedBy p n d (wordOf n (now (t .entry))) (place w) (r .quotient) (r .remainder) ⌝ }
+    requires { ⌜ Sizes p n × (1 ≤ d) × (d < n) × Stored p n w × Multiples 128 p n (now t) ⌝ }
+    ensures { λ r. ⌜ DividedBy 128 64 p n d (wordOf 128 n (now (t .entry))) (place w) (r .quotient) (r .remainder) ⌝ }
 {
     let mut v = word_table::extended(n, &w);
     let quotient = divide_in(p, n, d, n, t, &mut v);
@@ -75,8 +75,8 @@ pub fn divide(p: u8, n: usize, d: usize, t: &[u8], w: Word) -> Divided
 
 // Whether the table's word g, of degree d, divides w.
 pub fn divides(p: u8, n: usize, d: usize, t: &[u8], w: Word) -> bool
-    requires { ⌜ Sizes p n × (1 ≤ d) × (d < n) × Stored p n w × Multiples p n (now t) ⌝ }
-    ensures { λ r. ⌜ r ≡ divides (gf p) d (wordOf n (now (t .entry))) n (place w) ⌝ }
+    requires { ⌜ Sizes p n × (1 ≤ d) × (d < n) × Stored p n w × Multiples 128 p n (now t) ⌝ }
+    ensures { λ r. ⌜ r ≡ divides (gf p) d (wordOf 128 n (now (t .entry))) n (place w) ⌝ }
 {
     let parts = divide(p, n, d, t, w);
     let rest = parts.remainder;
@@ -85,8 +85,8 @@ pub fn divides(p: u8, n: usize, d: usize, t: &[u8], w: Word) -> bool
 
 // Whether the table's word g, of degree d, divides x^n - 1.
 pub fn divides_unity(p: u8, n: usize, d: usize, t: &[u8]) -> bool
-    requires { ⌜ Sizes p n × (1 ≤ d) × (d < n) × Multiples p n (now t) ⌝ }
-    ensures { λ r. ⌜ r ≡ divides (gf p) d (wordOf n (now (t .entry))) (suc n) (unity n) ⌝ }
+    requires { ⌜ Sizes p n × (1 ≤ d) × (d < n) × Multiples 128 p n (now t) ⌝ }
+    ensures { λ r. ⌜ r ≡ divides (gf p) d (wordOf 128 n (now (t .entry))) (suc n) (unity n) ⌝ }
 {
     let mut v = unity(n);
     divide_in(p, n, d, n + 1, t, &mut v);

@@ -3,7 +3,7 @@
 use mathlib.Core.Path.{_≡_, sym, ap, _∙_, subst}
 use mathlib.Core.List.{List}
 use Prim.Native.Nat.{ℕ, _*_, _%_, _^_, _≤_, _<_}
-use native.Mathlib.Nat.{mod-lt, add-mod-right}
+use native.Mathlib.Nat.{mod-lt, mul-le-mul-left, add-mod-right}
 use native.Mathlib.Decide.{decLt}
 use native.Mathlib.Omega.{arith}
 use lib.ListN.{List·getD-eq-default}
@@ -34,23 +34,19 @@ widened-at size n w low h j = padded-at size n (place w) h (mod-lt j low)
 
 -- ---- the word of a table
 
--- 8192 places hold every table
-pub table-fits : (p : ℕ) → p ≤ 6 → 128 * 2 ^ p ≤ 8192
-table-fits p h = let low : 2 ^ p ≤ 2 ^ 6 = pow-mono h in omega arith
+-- 2 ^ most rows hold every table of a field that has no more symbols
+pub table-fits : (stride most p : ℕ) → p ≤ most → stride * 2 ^ p ≤ stride * 2 ^ most
+table-fits stride most p h = mul-le-mul-left stride (pow-mono h)
 
--- and 1024 every table of at most 8 symbols
-pub few-fits : (p : ℕ) → p ≤ 3 → 128 * 2 ^ p ≤ 1024
-few-fits p h = let low : 2 ^ p ≤ 2 ^ 3 = pow-mono h in omega arith
-
-pub wordOf-period : (n : ℕ) (t : List ℕ) → Periodic n (wordOf n t)
+pub wordOf-period : (stride n : ℕ) (t : List ℕ) → Periodic n (wordOf stride n t)
 unfolding wordOf
-wordOf-period n t j = ap (entry t 1) (add-mod-right j n)
+wordOf-period stride n t j = ap (entry stride t 1) (add-mod-right j n)
 
 -- ---- a product, at every place
 
-pub multiplied-at : {p n : ℕ} {b f : ℕ → ℕ} {r : List ℕ} → Sizes p n → Periodic n f → Multiplied p n b f r
+pub multiplied-at : {span p n : ℕ} {b f : ℕ → ℕ} {r : List ℕ} → Sizes p n → Periodic n f → Multiplied span p n b f r
     → (m : ℕ) → at n r m ≡ product (gf p) n b f m
 unfolding at
-multiplied-at {p} {n} {b} {f} {r} s per h m =
+multiplied-at {p = p} {n} {b} {f} {r} s per h m =
     h .places (m % n) (mod-lt m (s .n-low))
     ∙ period-mod n (product (gf p) n b f) (product-period (gf p) (gf-laws p (s .p-low) (s .p-high)) n b f per) m

@@ -1,4 +1,4 @@
--- A table of the multiples of a word of n symbols: row c, 128 places long, has c times the word's symbols, twice over. Row 1 is the word itself.
+-- A table of the multiples of a word of n symbols: row c, `stride` places long, has c times the word's symbols, twice over. Row 1 is the word itself.
 -- Assumes nothing.
 use mathlib.Core.Path.{_≡_}
 use mathlib.Core.List.{List}
@@ -10,50 +10,50 @@ use Rattle.spec_word.specs.Word.{at, product}
 use Rattle.spec_word.specs.Division.{coefficients, remainder}
 use Rattle.word_array.specs.Stored.{place, Stored}
 
--- d holds a word w of n symbols twice over; all its 128 places are symbols
-pub record Twofold (p n : ℕ) (w d : List ℕ) : Type 0 where
-  pub symbols : Stored p 128 d
+-- d holds a word w of n symbols twice over; all its places are symbols
+pub record Twofold (stride p n : ℕ) (w d : List ℕ) : Type 0 where
+  pub symbols : Stored p stride d
   pub places : (j : ℕ) → j < n + n → place d j ≡ at n w j
 
 -- the entry in row c at place j
-abbrev pub entry : List ℕ → ℕ → ℕ → ℕ
-entry t c j = place t (128 * c + j)
+abbrev pub entry : ℕ → List ℕ → ℕ → ℕ → ℕ
+entry stride t c j = place t (stride * c + j)
 
 -- the word that a table is of, as a function with the period n
-unfoldable pub wordOf : ℕ → List ℕ → ℕ → ℕ
-wordOf n t j = entry t 1 (j % n)
+unfoldable pub wordOf : ℕ → ℕ → List ℕ → ℕ → ℕ
+wordOf stride n t j = entry stride t 1 (j % n)
 
-pub record Multiples (p n : ℕ) (t : List ℕ) : Type 0 where
-  pub size : 128 * 2 ^ p ≤ length t
-  pub symbol : (c j : ℕ) → c < 2 ^ p → j < 128 → entry t c j < 2 ^ p
-  pub multiple : (c j : ℕ) → c < 2 ^ p → j < n + n → entry t c j ≡ symbols.product p c (wordOf n t j)
+pub record Multiples (stride p n : ℕ) (t : List ℕ) : Type 0 where
+  pub size : stride * 2 ^ p ≤ length t
+  pub symbol : (c j : ℕ) → c < 2 ^ p → j < stride → entry stride t c j < 2 ^ p
+  pub multiple : (c j : ℕ) → c < 2 ^ p → j < n + n → entry stride t c j ≡ symbols.product p c (wordOf stride n t j)
 
 -- the first n places of row 0 of t became zero, and those of row 1 became d's; the length is as before
-pub record Begun (n : ℕ) (d t₀ t : List ℕ) : Type 0 where
+pub record Begun (stride n : ℕ) (d t₀ t : List ℕ) : Type 0 where
   pub long : length t ≡ length t₀
   pub zeros : (j : ℕ) → j < n → place t j ≡ 0
-  pub word : (j : ℕ) → j < n → entry t 1 j ≡ place d j
+  pub word : (j : ℕ) → j < n → entry stride t 1 j ≡ place d j
 
 -- row c of t has symbols only
-pub record RowStored (p c : ℕ) (t : List ℕ) : Type 0 where
-  pub symbol : (j : ℕ) → j < 128 → entry t c j < 2 ^ p
+pub record RowStored (stride p c : ℕ) (t : List ℕ) : Type 0 where
+  pub symbol : (j : ℕ) → j < stride → entry stride t c j < 2 ^ p
 
 -- row c of t became f's values; the places below it and above it, and the length, are as before
-pub record RowPut (c : ℕ) (f : ℕ → ℕ) (t₀ t : List ℕ) : Type 0 where
+pub record RowPut (stride c : ℕ) (f : ℕ → ℕ) (t₀ t : List ℕ) : Type 0 where
   pub long : length t ≡ length t₀
-  pub row : (j : ℕ) → j < 128 → entry t c j ≡ f j
-  pub low : (k : ℕ) → k < 128 * c → place t k ≡ place t₀ k
-  pub high : (k : ℕ) → 128 * c + 128 ≤ k → place t k ≡ place t₀ k
+  pub row : (j : ℕ) → j < stride → entry stride t c j ≡ f j
+  pub low : (k : ℕ) → k < stride * c → place t k ≡ place t₀ k
+  pub high : (k : ℕ) → stride * c + stride ≤ k → place t k ≡ place t₀ k
 
 -- t became the table of the word w, and is as long as before
-pub record Tabled (p n : ℕ) (w t₀ t : List ℕ) : Type 0 where
+pub record Tabled (stride p n : ℕ) (w t₀ t : List ℕ) : Type 0 where
   pub long : length t ≡ length t₀
-  pub multiples : Multiples p n t
-  pub word : (j : ℕ) → wordOf n t j ≡ at n w j
+  pub multiples : Multiples stride p n t
+  pub word : (j : ℕ) → wordOf stride n t j ≡ at n w j
 
--- r has the product of b and f below n; all its 64 places are symbols
-pub record Multiplied (p n : ℕ) (b f : ℕ → ℕ) (r : List ℕ) : Type 0 where
-  pub symbols : Stored p 64 r
+-- r has the product of b and f below n; all its places are symbols
+pub record Multiplied (span p n : ℕ) (b f : ℕ → ℕ) (r : List ℕ) : Type 0 where
+  pub symbols : Stored p span r
   pub places : (j : ℕ) → j < n → place r j ≡ product (gf p) n b f j
 
 -- r starts with the remainder of the n coefficients of w by g, of degree d

@@ -44,7 +44,7 @@ pub fn extended(n: usize, w: &[u8]) -> [u8; STRIDE]
 // A word of n symbols twice over, so that no place is taken modulo n.
 pub fn doubled(p: u8, n: usize, w: [u8; SPAN]) -> [u8; STRIDE]
     requires { ⌜ (1 ≤ n) × (n ≤ 63) × Stored p 64 w ⌝ }
-    ensures { λ r. ⌜ Twofold p n w r ⌝ }
+    ensures { λ r. ⌜ Twofold 128 p n w r ⌝ }
 {
     let mut out = extended(SPAN, &w);
     let mut j = 0;
@@ -58,7 +58,7 @@ pub fn doubled(p: u8, n: usize, w: [u8; SPAN]) -> [u8; STRIDE]
 // Rows 0 and 1 of a table: zero, and the word d.
 pub fn put_first_rows(d: [u8; STRIDE], t: &mut [u8])
     requires { ⌜ 256 ≤ length (now t) ⌝ }
-    ensures { λ _. ⌜ Begun 128 d (now (t .entry)) (now (t .exit)) ⌝ }
+    ensures { λ _. ⌜ Begun 128 128 d (now (t .entry)) (now (t .exit)) ⌝ }
 {
     let mut j = 0;
     while j < STRIDE {
@@ -71,7 +71,7 @@ pub fn put_first_rows(d: [u8; STRIDE], t: &mut [u8])
 // Row c of a table: x times a row.
 fn put_times_x(p: u8, row: [u8; STRIDE], c: usize, t: &mut [u8])
     requires { ⌜ (1 ≤ p) × (p ≤ 6) × (128 * c + 128 ≤ length (now t)) × Stored p 128 row ⌝ }
-    ensures { λ _. ⌜ RowPut c (λ j. timesX p (place row j)) (now (t .entry)) (now (t .exit)) ⌝ }
+    ensures { λ _. ⌜ RowPut 128 c (λ j. timesX p (place row j)) (now (t .entry)) (now (t .exit)) ⌝ }
 {
     let to = STRIDE * c;
     let mut j = 0;
@@ -83,8 +83,8 @@ fn put_times_x(p: u8, row: [u8; STRIDE], c: usize, t: &mut [u8])
 
 // Row 2c of a table: x times row c, which is copied first: a loop that reads and writes one slice is compiled step by step.
 fn put_double(p: u8, c: usize, t: &mut [u8])
-    requires { ⌜ (1 ≤ p) × (p ≤ 6) × (1 ≤ c) × (256 * c + 128 ≤ length (now t)) × RowStored p c (now t) ⌝ }
-    ensures { λ _. ⌜ RowPut (2 * c) (λ j. timesX p (entry (now (t .entry)) c j)) (now (t .entry)) (now (t .exit)) ⌝ }
+    requires { ⌜ (1 ≤ p) × (p ≤ 6) × (1 ≤ c) × (256 * c + 128 ≤ length (now t)) × RowStored 128 p c (now t) ⌝ }
+    ensures { λ _. ⌜ RowPut 128 (2 * c) (λ j. timesX p (entry 128 (now (t .entry)) c j)) (now (t .entry)) (now (t .exit)) ⌝ }
 {
     let from = STRIDE * c;
     let row = extended(STRIDE, &t[from..]);
@@ -94,7 +94,7 @@ fn put_double(p: u8, c: usize, t: &mut [u8])
 // Row 2c + 1 of a table: the word d added to row 2c.
 pub fn put_next(c: usize, d: [u8; STRIDE], t: &mut [u8])
     requires { ⌜ 256 * c + 256 ≤ length (now t) ⌝ }
-    ensures { λ _. ⌜ RowPut (2 * c + 1) (λ j. bitXor (entry (now (t .entry)) (2 * c) j) (place d j)) (now (t .entry)) (now (t .exit)) ⌝ }
+    ensures { λ _. ⌜ RowPut 128 (2 * c + 1) (λ j. bitXor (entry 128 (now (t .entry)) (2 * c) j) (place d j)) (now (t .entry)) (now (t .exit)) ⌝ }
 {
     let from = STRIDE * (2 * c);
     let to = from + STRIDE;
@@ -108,7 +108,7 @@ pub fn put_next(c: usize, d: [u8; STRIDE], t: &mut [u8])
 // Makes the table of the multiples of a word: rows 0 and 1, and then two rows from each row c.
 pub fn tabulate(p: u8, n: usize, w: [u8; SPAN], t: &mut [u8])
     requires { ⌜ Sizes p n × Stored p 64 w × (128 * 2 ^ p ≤ length (now t)) ⌝ }
-    ensures { λ _. ⌜ Tabled p n w (now (t .entry)) (now (t .exit)) ⌝ }
+    ensures { λ _. ⌜ Tabled 128 p n w (now (t .entry)) (now (t .exit)) ⌝ }
 {
     let d = doubled(p, n, w);
     let q = sizes::wide(field::order(p));
@@ -136,8 +136,8 @@ pub fn add_row(t: &[u8], from: usize, sum: &mut [u8; SPAN])
 // The sum, over the `count` bytes from `start` on, of the row of each byte, turned by its place.
 // Row 0 of a table of multiples is zero, so that zero symbols need no branch.
 pub fn product(n: usize, count: usize, symbols: &[u8], start: usize, t: &[u8]) -> [u8; SPAN]
-    requires { ⌜ Summands n count (now symbols) start (now t) ⌝ }
-    ensures { λ r. ⌜ r ≡ table 64 (turnedSum n count (λ u. place (now (symbols .entry)) (start + u)) (now (t .entry))) ⌝ }
+    requires { ⌜ Summands 128 64 n count (now symbols) start (now t) ⌝ }
+    ensures { λ r. ⌜ r ≡ table 64 (turnedSum 128 n count (λ u. place (now (symbols .entry)) (start + u)) (now (t .entry))) ⌝ }
 {
     let mut sum = [0u8; SPAN];
     let mut u = 0;

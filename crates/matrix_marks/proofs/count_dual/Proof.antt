@@ -11,7 +11,7 @@ use Rattle.matrix_marks.proofs.count_dual.Statement.{statement}
 use Rattle.matrix_marks.proofs.count_dual.Tie as tie
 
 abbrev Inv-loop : tie.InvT-loop
-Inv-loop p n terms from weight v counts₀ rows e₀ counts e = Raising rows (λ e. marksOf v (128 * e) terms from weight) counts₀ counts e
+Inv-loop p n terms from weight v counts₀ rows e₀ counts e = Raising 64 rows (λ e. marksOf v (128 * e) terms from weight) counts₀ counts e
 
 abbrev μ-loop : tie.MeasureT-loop
 μ-loop p n terms from weight v counts₀ rows e₀ counts e = rows - e
@@ -37,7 +37,7 @@ mark-rows-requires c κs =
     turned-markable _ (s .before .before .before .before .before .before .pre) (s .wide .ensures ∙ s .before .order .ensures) (omega arith)
 
 loop-holds : tie.Need-loop-holds Inv-loop μ-loop
-loop-holds c = raising-none _ _ _
+loop-holds c = raising-none 64 _ _ _
 
 mul-count-row : tie.Need-mul-count-row Inv-loop μ-loop
 mul-count-row c = search needs

@@ -14,7 +14,7 @@ use Rattle.matrix_marks.proofs.count_duals.Tie as tie
 
 abbrev Inv-loop : tie.InvT-loop
 Inv-loop p n duals terms t counts₀ weight v₀ l₀ counts v l =
-    (l ≤ duals) × (length v ≡ 1792) × Tallied p n duals terms (wordOf n t) l counts
+    (l ≤ duals) × (length v ≡ 1792) × Tallied 128 64 p n duals terms (wordOf 128 n t) l counts
 
 abbrev μ-loop : tie.MeasureT-loop
 μ-loop p n duals terms t counts₀ weight v₀ l₀ counts v l = duals - l
@@ -33,7 +33,7 @@ mark-room-requires : tie.Need-mark-room-requires Inv-loop μ-loop
 mark-room-requires c κs = search needs
 
 loop-holds : tie.Need-loop-holds Inv-loop μ-loop
-loop-holds c = (search needs, sym (c .mark-room .ensures), tallied-none (c .before .before .before .before .before .pre .zeros))
+loop-holds c = (search needs, sym (c .mark-room .ensures), tallied-none 64 (c .before .before .before .before .before .pre .zeros))
 
 product-requires : tie.Need-product-requires Inv-loop μ-loop
 product-requires c κs = let ok = begun (c .before) .pre in (ok .terms-of .numbers, c .loop-test .taken, ok .multiples)
@@ -51,7 +51,9 @@ count-dual-requires : tie.Need-count-dual-requires Inv-loop μ-loop
 count-dual-requires c κs =
     let w = c .before .before in
     let s = w .before .before in
-    dual-turned (begun s .pre) (w .before .loop-test .taken) (w .product .ensures) (s .loop .inv .2) (s .loop .inv .1)
+    let high = begun s .pre .terms-of .numbers .sizes .n-high in
+    dual-turned (begun s .pre) (w .before .loop-test .taken) (w .product .ensures) (s .loop .inv .2) (omega (arith, high)) (omega (arith, high))
+    (omega (arith, s .loop .inv .1))
 
 add-l : tie.Need-add-l Inv-loop μ-loop
 add-l c =
@@ -68,7 +70,8 @@ loop-again c =
     let taken = w .before .loop-test .taken in (
       omega (arith, taken),
       search needs,
-      dual-tallied (begun s .pre) taken (w .product .ensures) (s .loop .inv .2) (c .before .before .before .count-dual .ensures),
+      dual-tallied (begun s .pre) taken (w .product .ensures) (s .loop .inv .2) (omega (arith, begun s .pre .terms-of .numbers .sizes .n-high))
+          (c .before .before .before .count-dual .ensures),
     )
 
 same-length : tie.Need-same-length Inv-loop μ-loop

@@ -8,13 +8,13 @@ use Rattle.matrix_marks.proofs.count_row.Statement.{statement}
 use Rattle.matrix_marks.proofs.count_row.Tie as tie
 
 abbrev Inv-loop : tie.InvT-loop
-Inv-loop v start terms from weight row₀ i₀ row i = Summing v start terms from weight i row
+Inv-loop v start terms from weight row₀ i₀ row i = Summing 64 v start terms from weight i row
 
 abbrev μ-loop : tie.MeasureT-loop
 μ-loop v start terms from weight row₀ i₀ row i = weight - i
 
 loop-holds : tie.Need-loop-holds Inv-loop μ-loop
-loop-holds c = summing-none _ _ _ _ _
+loop-holds c = summing-none 64 _ _ _ _ _
 
 add-add-marks : tie.Need-add-add-marks Inv-loop μ-loop
 add-add-marks c = search needs

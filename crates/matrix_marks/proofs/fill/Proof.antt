@@ -32,8 +32,11 @@ slice-aggregate-tabulate c = search needs
 tabulate-requires : tie.Need-tabulate-requires
 tabulate-requires c κs =
     let pre = c .before .before .before .before .before .pre in
-    let s = pre .0 .terms-of .numbers .sizes in
-    (s, word-stored s _ (c .before .widened .ensures) (pre .0 .word), omega (arith, few-le (pre .1), c .before .before .table-room .ensures))
+    let s = pre .0 .terms-of .numbers .sizes in (
+      s,
+      word-stored 64 s (omega (arith, s .n-high)) _ (c .before .widened .ensures) (pre .0 .word),
+      omega (arith, few-le (pre .1), c .before .before .table-room .ensures),
+    )
 
 counters-requires : tie.Need-counters-requires
 counters-requires c κs = search needs
@@ -63,7 +66,7 @@ gather-requires : tie.Need-gather-requires
 gather-requires c κs =
     let d = c .before .before .before in
     let pre = begun (table-made d) .pre in
-    tallied-gatherable (d .count-duals .ensures) (pre .0 .terms-of .numbers) (pre .1) (pre .0 .size)
+    tallied-gatherable (d .count-duals .ensures) (pre .0 .terms-of .numbers) (omega (arith, pre .0 .terms-of .numbers .sizes .n-high)) (pre .1) (pre .0 .size)
 
 cast-row-zero : tie.Need-cast-row-zero
 cast-row-zero c =
@@ -99,7 +102,7 @@ returns c =
     let s = begun t .pre .0 .terms-of .numbers .sizes in
     λ b all.
     filled s (gathered-filled (d .count-duals .ensures) all (g .gather .ensures)) refl (c .before .before .row-zero .ensures)
-    ∙ ap (counted _ _ _ _) (word-read s _ (t .before .before .widened .ensures) (t .tabulate .ensures))
+    ∙ ap (counted _ _ _ _) (word-read 64 s (omega (arith, s .n-high)) _ (t .before .before .widened .ensures) (t .tabulate .ensures))
 
 pub fill-spec : {M : Type 1} → statement M
 fill-spec =

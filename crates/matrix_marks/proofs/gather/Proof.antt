@@ -11,7 +11,7 @@ use Rattle.matrix_marks.proofs.gather.Statement.{statement}
 use Rattle.matrix_marks.proofs.gather.Tie as tie
 
 abbrev Inv-loop : tie.InvT-loop
-Inv-loop p n terms counts m₀ q i₀ m i = Gathering n terms counts m₀ m i
+Inv-loop p n terms counts m₀ q i₀ m i = Gathering 64 n terms counts m₀ m i
 
 abbrev μ-loop : tie.MeasureT-loop
 μ-loop p n terms counts m₀ q i₀ m i = q - i
@@ -31,7 +31,7 @@ wide-requires : tie.Need-wide-requires Inv-loop μ-loop
 wide-requires c κs = search needs
 
 loop-holds : tie.Need-loop-holds Inv-loop μ-loop
-loop-holds c = gathering-none _ _ _ _
+loop-holds c = gathering-none 64 _ _ _ _
 
 mul-gather-row : tie.Need-mul-gather-row Inv-loop μ-loop
 mul-gather-row c = let s = c .before in omega (arith, row-within (begun s .pre) (s .loop .inv) (symbol c), s .loop .inv .long)

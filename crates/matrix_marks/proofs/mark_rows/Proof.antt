@@ -9,13 +9,13 @@ use Rattle.matrix_marks.proofs.mark_rows.Statement.{statement}
 use Rattle.matrix_marks.proofs.mark_rows.Tie as tie
 
 abbrev Inv-loop : tie.InvT-loop
-Inv-loop rows terms d v₀ e₀ v e = Marking rows (powersIn terms) d v₀ v e
+Inv-loop rows terms d v₀ e₀ v e = Marking 128 rows (powersIn terms) d v₀ v e
 
 abbrev μ-loop : tie.MeasureT-loop
 μ-loop rows terms d v₀ e₀ v e = rows - e
 
 loop-holds : tie.Need-loop-holds Inv-loop μ-loop
-loop-holds c = marking-none _ _ _ _
+loop-holds c = marking-none 128 _ _ _ _
 
 add-mark : tie.Need-add-mark Inv-loop μ-loop
 add-mark c = search needs

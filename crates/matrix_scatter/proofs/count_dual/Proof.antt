@@ -12,7 +12,7 @@ use Rattle.matrix_scatter.proofs.count_dual.Statement.{statement}
 use Rattle.matrix_scatter.proofs.count_dual.Tie as tie
 
 abbrev Inv-loop : tie.InvT-loop
-Inv-loop l p n cells terms counts₀ last weight from i₀ counts i = (last ≡ 2 ^ p - 1) × Adding (place terms 0) (termAdds l p n cells terms) counts₀ counts i
+Inv-loop l p n cells terms counts₀ last weight from i₀ counts i = (last ≡ 2 ^ p - 1) × Adding (place terms 0) (termAdds 128 l p n cells terms) counts₀ counts i
 
 abbrev μ-loop : tie.MeasureT-loop
 μ-loop l p n cells terms counts₀ last weight from i₀ counts i = weight - i

@@ -10,7 +10,7 @@ use Rattle.matrix_scatter.proofs.count_duals.Statement.{statement}
 use Rattle.matrix_scatter.proofs.count_duals.Tie as tie
 
 abbrev Inv-loop : tie.InvT-loop
-Inv-loop p n duals terms counts₀ starts t l₀ counts l = CountedTo p n duals terms starts t counts₀ counts l
+Inv-loop p n duals terms counts₀ starts t l₀ counts l = CountedTo 128 p n duals terms starts t counts₀ counts l
 
 abbrev μ-loop : tie.MeasureT-loop
 μ-loop p n duals terms counts₀ starts t l₀ counts l = duals - l
@@ -32,7 +32,7 @@ tabulate-requires c κs =
     let s = c .before .before in
     let pre = s .before .before .before .before .pre in
     let x = pre .terms-of .numbers .sizes in
-    (x, word-stored x _ (c .before .widened .ensures) (pre .word), omega (arith, order-le x, s .table-room .ensures))
+    (x, word-stored 64 x (omega (arith, x .n-high)) _ (c .before .widened .ensures) (pre .word), omega (arith, order-le x, s .table-room .ensures))
 
 loop-holds : tie.Need-loop-holds Inv-loop μ-loop
 loop-holds c = record { counted = λ b h. adding-none _ _ _ }
@@ -55,8 +55,12 @@ offsets-requires c κs =
     let pre = u .before .before .before .pre in
     let h = pre .terms-of in
     let x = h .numbers .sizes in
-    let a = t .loop .inv .counted _ h in
-    (x .n-low, x .n-high, dual-started pre h _ (u .row-starts .ensures) a (s .loop-test .taken) (c .product .ensures _ (h .row-of _ (s .loop-test .taken))))
+    let a = t .loop .inv .counted _ h in (
+      x .n-low,
+      x .n-high,
+      dual-started pre h _ (u .row-starts .ensures) a (s .loop-test .taken) (omega (arith, x .n-high))
+          (c .product .ensures _ (h .row-of _ (s .loop-test .taken))),
+    )
 
 slice-aggregate-count-dual : tie.Need-slice-aggregate-count-dual Inv-loop μ-loop
 slice-aggregate-count-dual c = search needs
@@ -71,7 +75,8 @@ count-dual-requires c κs =
     let pre = w .before .before .before .pre in
     let h = pre .terms-of in
     let d = u .loop-test .taken in
-    dual-countable pre h _ (w .row-starts .ensures) (v .loop .inv .counted _ h) d (t .product .ensures _ (h .row-of _ d)) (s .offsets .ensures)
+    dual-countable pre h _ (w .row-starts .ensures) (v .loop .inv .counted _ h) d (omega (arith, h .numbers .sizes .n-high))
+    (t .product .ensures _ (h .row-of _ d)) (s .offsets .ensures)
 
 add-l : tie.Need-add-l Inv-loop μ-loop
 add-l c =
@@ -94,8 +99,8 @@ loop-again c =
     let d = v .loop-test .taken in
     record {
       counted = λ b h.
-          dual-more pre h _ (x .row-starts .ensures) (w .loop .inv .counted b h) d (u .product .ensures (b _) (h .row-of _ d)) (t .offsets .ensures) _
-          (s .count-dual .ensures);
+          dual-more pre h _ (x .row-starts .ensures) (w .loop .inv .counted b h) d (omega (arith, h .numbers .sizes .n-high))
+          (u .product .ensures (b _) (h .row-of _ d)) (t .offsets .ensures) _ (s .count-dual .ensures);
     }
 
 same-length : tie.Need-same-length Inv-loop μ-loop
@@ -113,7 +118,7 @@ returns c =
     let h = pre .terms-of in
     let i = c .before .loop .inv in
     let st = u .row-starts .ensures in
-    let word = word-read (h .numbers .sizes) _ (t .widened .ensures) (s .tabulate .ensures) in
+    let word = word-read 64 (h .numbers .sizes) (omega (arith, h .numbers .sizes .n-high)) _ (t .widened .ensures) (s .tabulate .ensures) in
     record {
       counter = λ b h. counter-end pre h _ st (i .counted b h) word (c .loop-test .left);
       most = counters-most pre h _ st (i .counted _ h) (c .loop-test .left);

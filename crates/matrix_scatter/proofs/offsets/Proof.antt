@@ -8,13 +8,13 @@ use Rattle.matrix_scatter.proofs.offsets.Statement.{statement}
 use Rattle.matrix_scatter.proofs.offsets.Tie as tie
 
 abbrev Inv-loop : tie.InvT-loop
-Inv-loop n starts w out₀ j₀ out j = Doubling n starts w out j
+Inv-loop n starts w out₀ j₀ out j = Doubling 128 n starts w out j
 
 abbrev μ-loop : tie.MeasureT-loop
 μ-loop n starts w out₀ j₀ out j = n - j
 
 loop-holds : tie.Need-loop-holds Inv-loop μ-loop
-loop-holds c = doubling-none _ _ _
+loop-holds c = doubling-none 128 _ _ _
 
 array-read-to : tie.Need-array-read-to Inv-loop μ-loop
 array-read-to c = search needs
@@ -62,7 +62,7 @@ loop-less : tie.Need-loop-less Inv-loop μ-loop
 loop-less c = search needs
 
 loop-again : tie.Need-loop-again Inv-loop μ-loop
-loop-again c = doubling-more (c .before .loop .inv) (c .before .before .pre .1) (c .loop-test .taken)
+loop-again c = doubling-more (c .before .loop .inv) (omega (arith, c .before .before .pre .1)) (c .loop-test .taken)
 
 returns : tie.Need-returns Inv-loop μ-loop
 returns c = doubling-end (c .before .loop .inv) (c .loop-test .left)

@@ -8,7 +8,7 @@ use Rattle.matrix_terms.proofs.list.Statement.{statement}
 use Rattle.matrix_terms.proofs.list.Tie as tie
 
 abbrev Inv-loop : tie.InvT-loop
-Inv-loop book p n duals terms₀ weight₀ l₀ terms weight l = ListedTo book n duals terms₀ weight l terms
+Inv-loop book p n duals terms₀ weight₀ l₀ terms weight l = ListedTo 128 book n duals terms₀ weight l terms
 
 abbrev μ-loop : tie.MeasureT-loop
 μ-loop book p n duals terms₀ weight₀ l₀ terms weight l = duals - l
@@ -24,7 +24,7 @@ put-requires : tie.Need-put-requires Inv-loop μ-loop
 put-requires c κs = let pre = c .before .before .before .pre in (pre .0 .sizes .p-low, pre .0 .sizes .p-high, omega (arith, pre .1))
 
 loop-holds : tie.Need-loop-holds Inv-loop μ-loop
-loop-holds c = listed-none _ _ _ _ _
+loop-holds c = listed-none 128 _ _ _ _ _
 
 list-dual-requires : tie.Need-list-dual-requires Inv-loop μ-loop
 list-dual-requires c κs =
@@ -68,8 +68,10 @@ returns : tie.Need-returns Inv-loop μ-loop
 returns c =
     let a = put-made (c .before) in
     let pre = begun a .pre in
-    let end = c .loop-test .left in
-    (listed-end (pre .0) (pre .1) (a .put .ensures) (c .before .loop .inv) end, listed-long (pre .0) (pre .1) (a .put .ensures) (c .before .loop .inv) end)
+    let end = c .loop-test .left in (
+      listed-end (pre .0) (pre .1) (a .put .ensures) (c .before .loop .inv) end (omega (arith, pre .0 .sizes .n-high)),
+      listed-long (pre .0) (pre .1) (a .put .ensures) (c .before .loop .inv) end,
+    )
 
 pub list-spec : {M : Type 1} → statement M
 list-spec =

@@ -11,7 +11,7 @@ use Rattle.matrix_terms.proofs.list_dual.Tie as tie
 
 abbrev Inv-loop : tie.InvT-loop
 Inv-loop book p n l terms₀ start from count₀ h₀ terms count h =
-    Written n (λ j. place book (start + j)) from terms₀ count h terms
+    Written 128 n (λ j. place book (start + j)) from terms₀ count h terms
 
 abbrev μ-loop : tie.MeasureT-loop
 μ-loop book p n l terms₀ start from count₀ h₀ terms count h = n - h
@@ -29,7 +29,7 @@ add-from : tie.Need-add-from Inv-loop μ-loop
 add-from c = omega (arith, c .pre .1 .within)
 
 loop-holds : tie.Need-loop-holds Inv-loop μ-loop
-loop-holds c = written-none _ _ _ _
+loop-holds c = written-none 128 _ _ _ _
 
 add-c : tie.Need-add-c Inv-loop μ-loop
 add-c c = omega (arith, c .before .before .pre .0 .within)

@@ -9,7 +9,7 @@ use Rattle.matrix_terms.proofs.product.Statement.{statement}
 use Rattle.matrix_terms.proofs.product.Tie as tie
 
 abbrev Inv-loop : tie.InvT-loop
-Inv-loop l p n duals terms t weight from sum₀ i₀ sum i = Summing t (startOf n terms l) weight i sum
+Inv-loop l p n duals terms t weight from sum₀ i₀ sum i = Summing 64 t (startOf 128 n terms l) weight i sum
 
 abbrev μ-loop : tie.MeasureT-loop
 μ-loop l p n duals terms t weight from sum₀ i₀ sum i = weight - i
@@ -37,7 +37,7 @@ add-from : tie.Need-add-from Inv-loop μ-loop
 add-from c = let pre = c .before .before .before .pre in omega (arith, pre .1, pre .0 .few-duals)
 
 loop-holds : tie.Need-loop-holds Inv-loop μ-loop
-loop-holds c = summing-none _ _ _
+loop-holds c = summing-none 64 _ _ _
 
 add-term : tie.Need-add-term Inv-loop μ-loop
 add-term c = let pre = begun (c .before) .pre in omega (arith, row-in c, pre .0 .long)
@@ -80,7 +80,7 @@ add-row-requires : tie.Need-add-row-requires Inv-loop μ-loop
 add-row-requires c κs =
     let s = c .before .before .before in
     let pre = begun (s .before) .pre in
-    (start-in (pre .0) (pre .1) (pre .2) (s .loop-test .taken), s .before .loop .inv .long)
+    (start-in (pre .0) (pre .1) 64 (omega (arith, pre .0 .sizes .n-high)) (pre .2) (s .loop-test .taken), s .before .loop .inv .long)
 
 add-i : tie.Need-add-i Inv-loop μ-loop
 add-i c = search needs
@@ -96,7 +96,9 @@ loop-again c =
 returns : tie.Need-returns Inv-loop μ-loop
 returns c =
     let pre = begun (c .before) .pre in
-    λ b row. summing-end (pre .0 .sizes) (row .symbol) (pre .2) (starts-of (pre .0) (pre .1) row) (c .loop-test .left) (c .before .loop .inv)
+    let high = pre .0 .sizes .n-high in
+    λ b row. summing-end (pre .0 .sizes) (omega (arith, high)) (omega (arith, high)) (row .symbol) (pre .2) (starts-of (pre .0) (pre .1) row)
+    (c .loop-test .left) (c .before .loop .inv)
 
 pub product-spec : {M : Type 1} → statement M
 product-spec =

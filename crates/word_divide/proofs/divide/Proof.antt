@@ -24,6 +24,7 @@ divide-in-requires c κs =
       degree-lt = pre .2;
       k-low = search needs;
       k-high = search needs;
+      span-high = search needs;
       symbols = padded-stored e (search needs) (pre .3 .symbol);
       multiples = pre .4;
       long = ap length e ∙ padded-length _ _ _;

@@ -8,7 +8,7 @@ use Rattle.word_divide.proofs.divide_in.Statement.{statement}
 use Rattle.word_divide.proofs.divide_in.Tie as tie
 
 abbrev Inv-loop : tie.InvT-loop
-Inv-loop p n d k t v₀ q₀ i₀ v q i = Window p n d k t v₀ i q v
+Inv-loop p n d k t v₀ q₀ i₀ v q i = Window 128 64 p n d k t v₀ i q v
 
 abbrev μ-loop : tie.MeasureT-loop
 μ-loop p n d k t v₀ q₀ i₀ v q i = i

@@ -25,6 +25,7 @@ divide-in-requires c κs =
       degree-lt = pre .2;
       k-low = search needs;
       k-high = search needs;
+      span-high = search needs;
       symbols = padded-stored e (search needs) (λ j l. unity-symbol (pre .0) j);
       multiples = pre .3;
       long = ap length e ∙ padded-length _ _ _;

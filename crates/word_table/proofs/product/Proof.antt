@@ -10,13 +10,13 @@ use Rattle.word_table.proofs.product.Statement.{statement}
 use Rattle.word_table.proofs.product.Tie as tie
 
 abbrev Inv-loop : tie.InvT-loop
-Inv-loop n count symbols start t sum₀ u₀ sum u = Summing n count (λ u. place symbols (start + u)) t u sum
+Inv-loop n count symbols start t sum₀ u₀ sum u = Summing 128 64 n count (λ u. place symbols (start + u)) t u sum
 
 abbrev μ-loop : tie.MeasureT-loop
 μ-loop n count symbols start t sum₀ u₀ sum u = count - u
 
 loop-holds : tie.Need-loop-holds Inv-loop μ-loop
-loop-holds c = summing-none _ _ _ _
+loop-holds c = summing-none 128 64 _ _ _ _
 
 add-wide : tie.Need-add-wide Inv-loop μ-loop
 add-wide c = search needs
@@ -40,11 +40,11 @@ sub-add-row : tie.Need-sub-add-row Inv-loop μ-loop
 sub-add-row c = search needs
 
 add-add-row : tie.Need-add-add-row Inv-loop μ-loop
-add-add-row c = omega (arith, in-table c, c .before .before .before .before .before .before .pre .n-high)
+add-add-row c = omega (arith, in-table c, c .before .before .before .before .before .before .pre .fits)
 
 add-row-requires : tie.Need-add-row-requires Inv-loop μ-loop
 add-row-requires c κs = (
-  omega (arith, in-table (c .before), c .before .before .before .before .before .before .before .pre .n-high),
+  omega (arith, in-table (c .before), c .before .before .before .before .before .before .before .pre .fits),
   c .before .before .before .before .loop .inv .long,
 )
 

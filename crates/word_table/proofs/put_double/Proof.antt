@@ -17,15 +17,16 @@ use Rattle.word_table.proofs.put_double.Statement.{statement}
 use Rattle.word_table.proofs.put_double.Tie as tie
 
 -- row c, copied off the part of t that starts there
-module _ (c : ℕ) (t : List ℕ) {row : List ℕ} (fits : 128 * c + 128 ≤ length t)
-    (e : row ≡ padded 128 128 (place (take (length t - 128 * c) (drop (128 * c) t)))) where
-  row-is : (j : ℕ) → j < 128 → place row j ≡ entry t c j
-  row-is j l = read-padded _ e (le-refl 128) l ∙ getD-take (length t - 128 * c) (drop (128 * c) t) j 0 (omega arith) ∙ getD-drop (128 * c) t j 0
+module _ {stride : ℕ} (c : ℕ) (t : List ℕ) {row : List ℕ} (fits : stride * c + stride ≤ length t)
+    (e : row ≡ padded stride stride (place (take (length t - stride * c) (drop (stride * c) t)))) where
+  row-is : (j : ℕ) → j < stride → place row j ≡ entry stride t c j
+  row-is j l =
+      read-padded _ e (le-refl stride) l ∙ getD-take (length t - stride * c) (drop (stride * c) t) j 0 (omega arith) ∙ getD-drop (stride * c) t j 0
 
-  row-stored : {p : ℕ} → RowStored p c t → Stored p 128 row
+  row-stored : {p : ℕ} → RowStored stride p c t → Stored p stride row
   row-stored {p} h = record { symbol = λ j l. subst (λ (x : ℕ). x < 2 ^ p) (sym (row-is j l)) (h .symbol j l) }
 
-  doubled-row : (p : ℕ) {t′ : List ℕ} {k : ℕ} → RowPut k (λ j. timesX p (place row j)) t t′ → RowPut k (λ j. timesX p (entry t c j)) t t′
+  doubled-row : (p : ℕ) {t′ : List ℕ} {k : ℕ} → RowPut stride k (λ j. timesX p (place row j)) t t′ → RowPut stride k (λ j. timesX p (entry stride t c j)) t t′
   doubled-row p h = record { long = h .long; row = λ j l. h .row j l ∙ ap (timesX p) (row-is j l); low = h .low; high = h .high }
 
 mul-from : tie.Need-mul-from

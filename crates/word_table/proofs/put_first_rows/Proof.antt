@@ -10,13 +10,13 @@ use Rattle.word_table.proofs.put_first_rows.Statement.{statement}
 use Rattle.word_table.proofs.put_first_rows.Tie as tie
 
 abbrev Inv-loop : tie.InvT-loop
-Inv-loop t₀ d j₀ t j = (j ≤ 128) × Begun j d t₀ t
+Inv-loop t₀ d j₀ t j = (j ≤ 128) × Begun 128 j d t₀ t
 
 abbrev μ-loop : tie.MeasureT-loop
 μ-loop t₀ d j₀ t j = 128 - j
 
 loop-holds : tie.Need-loop-holds Inv-loop μ-loop
-loop-holds c = (search needs, begun-none _ _)
+loop-holds c = (search needs, begun-none 128 _ _)
 
 slice-write-t : tie.Need-slice-write-t Inv-loop μ-loop
 slice-write-t c = search needs

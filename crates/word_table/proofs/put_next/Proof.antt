@@ -13,7 +13,7 @@ use Rattle.word_table.proofs.put_next.Statement.{statement}
 use Rattle.word_table.proofs.put_next.Tie as tie
 
 abbrev Inv-loop : tie.InvT-loop
-Inv-loop c t₀ d from to j₀ t j = (j ≤ 128) × Window to j (λ j. bitXor (entry t₀ (2 * c) j) (place d j)) t₀ t
+Inv-loop c t₀ d from to j₀ t j = (j ≤ 128) × Window to j (λ j. bitXor (entry 128 t₀ (2 * c) j) (place d j)) t₀ t
 
 abbrev μ-loop : tie.MeasureT-loop
 μ-loop c t₀ d from to j₀ t j = 128 - j

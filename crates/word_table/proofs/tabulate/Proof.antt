@@ -12,7 +12,7 @@ use Rattle.word_table.proofs.tabulate.Statement.{statement}
 use Rattle.word_table.proofs.tabulate.Tie as tie
 
 abbrev Inv-loop : tie.InvT-loop
-Inv-loop p n t₀ d q c₀ t c = (1 ≤ c) × (c ≤ q) × (length t ≡ length t₀) × Rows p (2 * c) (λ x. x) d t
+Inv-loop p n t₀ d q c₀ t c = (1 ≤ c) × (c ≤ q) × (length t ≡ length t₀) × Rows 128 p (2 * c) (λ x. x) d t
 
 abbrev μ-loop : tie.MeasureT-loop
 μ-loop p n t₀ d q c₀ t c = q - c
@@ -109,7 +109,7 @@ returns c =
     let wide = put .before .before in
     let s = wide .before .before .before .before .pre in
     let two = wide .before .before .doubled .ensures in
-    rows-end (s .0) (whole two) (now .inv .3) (omega (arith, wide .wide .ensures ∙ wide .before .order .ensures)) two (as-whole _)
+    rows-end (s .0) (whole two) (omega (arith, s .0 .n-high)) (now .inv .3) (omega (arith, wide .wide .ensures ∙ wide .before .order .ensures)) two (as-whole _)
     (as-whole _) (s .2) (now .inv .2 ∙ put .put-first-rows .ensures .long)
 
 pub tabulate-spec : {M : Type 1} → statement M

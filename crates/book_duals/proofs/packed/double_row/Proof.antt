@@ -12,7 +12,7 @@ use Rattle.book_duals.proofs.packed.double_row.Statement.{statement}
 use Rattle.book_duals.proofs.packed.double_row.Tie as tie
 
 abbrev Inv-loop : tie.InvT-loop
-Inv-loop p c t₀ ones others up from to j₀ t j = (j ≤ 128) × Window to j (λ j. doubleAll p (entry t₀ c j)) t₀ t
+Inv-loop p c t₀ ones others up from to j₀ t j = (j ≤ 128) × Window to j (λ j. doubleAll p (entry 128 t₀ c j)) t₀ t
 
 abbrev μ-loop : tie.MeasureT-loop
 μ-loop p c t₀ ones others up from to j₀ t j = 128 - j

@@ -13,7 +13,7 @@ use Rattle.book_duals.proofs.packed.multiples.Statement.{statement}
 use Rattle.book_duals.proofs.packed.multiples.Tie as tie
 
 abbrev Inv-loop : tie.InvT-loop
-Inv-loop p n t₀ d q c₀ t c = (1 ≤ c) × (c ≤ q) × (length t ≡ length t₀) × LaneRows p (2 * c) d t
+Inv-loop p n t₀ d q c₀ t c = (1 ≤ c) × (c ≤ q) × (length t ≡ length t₀) × LaneRows 128 p (2 * c) d t
 
 abbrev μ-loop : tie.MeasureT-loop
 μ-loop p n t₀ d q c₀ t c = q - c
@@ -113,7 +113,7 @@ returns c =
     let start = wide .before .before .before .before in
     let long = now .inv .2 ∙ put .put-first-rows .ensures .long in (
       long,
-      lanes-end (start .pre .0) (wide .before .before .doubled .ensures) (start .args .t .now) (now .inv .3)
+      lanes-end (start .pre .0) (wide .before .before .doubled .ensures) (omega (arith, start .pre .0 .n-high)) (start .args .t .now) (now .inv .3)
           (omega (arith, wide .wide .ensures ∙ wide .before .order .ensures))
           (start .pre .3)
           long,

@@ -20,10 +20,10 @@ product-requires c κs =
     let s = c .before .before .before .before .before .before .before .before .pre in
     let long = c .before .before .before .multiples .ensures .0 in
     record {
-      n-high = s .0 .sizes .n-high;
+      fits = omega (arith, s .0 .sizes .n-high);
       within = le-refl _;
       room = omega (arith, s .0 .room, s .0 .sizes .n-high);
-      row = generator-row (s .0) (s .1) (omega (arith, s .3, long));
+      row = generator-row (s .0) (s .1) 128 (omega (arith, s .3, long));
     }
 
 same-length : tie.Need-same-length
@@ -36,7 +36,7 @@ returns c =
     let start = packed .before .before .before in
     let s = start .pre in (
       m .multiples .ensures .0,
-      λ j d. packed-zero (s .0) (s .1) (start .args .t .now) _ (packed .packed .ensures) (m .multiples .ensures .1)
+      λ j d. packed-zero (s .0) (s .1) (omega (arith, s .0 .sizes .n-high)) (start .args .t .now) _ (packed .packed .ensures) (m .multiples .ensures .1)
           (λ k. omega (arith, c .before .before .slice-known2 .given k))
           (c .product .ensures)
           j

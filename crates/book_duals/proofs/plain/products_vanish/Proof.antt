@@ -30,7 +30,7 @@ product-requires : tie.Need-product-requires Inv-loop μ-loop
 product-requires c κs =
     let s = c .before .before .before .before .pre in
     record {
-      n-high = s .0 .sizes .n-high;
+      fits = omega (arith, s .0 .sizes .n-high);
       within = le-refl _;
       room = omega (arith, s .0 .room, s .0 .sizes .n-high);
       row = dual-row (s .0) (s .1) (c .loop-test .taken) (omega arith);
@@ -51,7 +51,8 @@ loop-again c =
     let h = s .before .before .before .pre in (
       search needs,
       joined-one (omega (arith, h .0 .sizes .n-high)) (s .loop .inv .1) (c .before .before .product .result) (c .join .ensures)
-          (dual-product (h .0) (h .1) (c .before .before .before .loop-test .taken) (omega arith) (c .before .before .product .ensures)),
+          (dual-product (h .0) (h .1) (c .before .before .before .loop-test .taken) (omega arith) (omega (arith, h .0 .sizes .n-high))
+          (c .before .before .product .ensures)),
     )
 
 slice-aggregate-is-zero : tie.Need-slice-aggregate-is-zero Inv-loop μ-loop
