@@ -14,7 +14,7 @@ use book::Opened;
 use book::Params;
 use sizes::BOOK;
 
-// What came of the opening: some of it is still coming, or the book is open, or it is refused, with document 01's number.
+// What came of the opening: some of it is still coming, or the book is open, or it is refused, with its number.
 pub enum Judged {
     Coming,
     Open(Params),
