@@ -54,7 +54,7 @@ extern "C" {
 #define SHIFTSUM_WORD_MAX 63
 
 /* Bytes of stack that are enough for any call. */
-#define SHIFTSUM_STACK 57344
+#define SHIFTSUM_STACK 61440
 
 /*
  * A result is four bytes in a number. The lowest is 0, or the number of the refusal, and then the other three are 0. The first number that applies

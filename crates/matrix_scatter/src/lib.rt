@@ -19,7 +19,7 @@ use sizes::TABLE;
 use sizes::Word;
 
 // The counters that a room has where they are few.
-const FEW_COUNTERS: usize = 768;
+const FEW_COUNTERS: usize = 3072;
 // And where they are many.
 const COUNTERS: usize = 12288;
 
@@ -32,7 +32,7 @@ fn table_room() -> [u8; TABLE]
 
 // Counters, where they are few.
 fn small_room() -> [u16; FEW_COUNTERS]
-    ensures { λ r. ⌜ (768 ≡ length r) × ((k : ℕ) → place r k ≡ 0) ⌝ }
+    ensures { λ r. ⌜ (3072 ≡ length r) × ((k : ℕ) → place r k ≡ 0) ⌝ }
 {
     [0; FEW_COUNTERS]
 }
