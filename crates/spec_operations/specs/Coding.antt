@@ -20,11 +20,11 @@ module _ (bytes : List ℕ) where
   abbrev B : Book
   B = bookOf width bytes
 
-  -- code: 9 to 11 for k symbols and an output of n bytes
+  -- SCOPE 7.18: code, once the book is accepted: 9 to 11 for k symbols and an output of n bytes
   unfoldable pub codeInputRefusal : List ℕ → ℕ → ℕ
   codeInputRefusal f room = inputRefusal (F .q) (eqb (length f) (messageLength B)) (eqb room (B .n)) f
 
-  -- SCOPE 7.18: code: 1 to 8, then 9 to 11 for k symbols and an output of n bytes
+  -- SCOPE 7.18: code: 1 to 8, then these
   unfoldable pub codeRefusal : List ℕ → ℕ → ℕ
   codeRefusal f room = orElse (refusal width bytes) (codeInputRefusal f room)
 
@@ -32,15 +32,15 @@ module _ (bytes : List ℕ) where
   abbrev pub coded : List ℕ → List ℕ
   coded f = encode F B f
 
-  -- SCOPE 7.18: read: 1 to 8, then 9 to 11 for n symbols and an output of k bytes
+  -- SCOPE 7.18: read, once the book is accepted: 9 to 11 for n symbols and an output of k bytes
   unfoldable pub readInputRefusal : List ℕ → ℕ → ℕ
   readInputRefusal w room = inputRefusal (F .q) (eqb (length w) (B .n)) (eqb room (messageLength B)) w
 
-  -- then 12
+  -- SCOPE 7.18: then 12
   unfoldable pub readWordRefusal : List ℕ → ℕ → ℕ
   readWordRefusal w room = orElse (readInputRefusal w room) (codeWordRefusal F B w)
 
-  -- SCOPE 7.18: read: 1 to 11, then 12
+  -- SCOPE 7.18: read: 1 to 8, then these
   unfoldable pub readRefusal : List ℕ → ℕ → ℕ
   readRefusal w room = orElse (refusal width bytes) (readWordRefusal w room)
 

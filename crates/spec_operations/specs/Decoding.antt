@@ -56,7 +56,7 @@ module _ (bytes : List ℕ) where
 abbrev pub values : Result → List ℕ
 values x = x .changed ∷ x .rounds ∷ letter (x .kind) ∷ []
 
--- SCOPE 5.5: a call with first refusal number `number`, and the result x where that is 0: its answer r, and the two buffers in the end
+-- SCOPE 5.5: a call with first refusal number `number`, and the result x where that is 0: its answer a, and the two buffers in the end
 pub record Decodes (number : ℕ) (x : Result) (word₀ entries₀ : List ℕ) (a : Answer) (word entries : List ℕ) : Type 0 where
   pub says : a ≡ answer number (values x)
   pub answer-buffer : word ≡ left number (x .answer) word₀
