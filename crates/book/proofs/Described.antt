@@ -2,28 +2,32 @@
 -- Assumes nothing.
 use mathlib.Core.Path.{_≡_, refl, sym, ap, _∙_, fun-ext}
 use mathlib.Core.List.{List}
-use Prim.Native.Nat.{ℕ, _+_, _*_, _^_, _≤_, _<_}
-use native.Mathlib.Nat.{mod-lt, le-trans, mul-le-mul}
+use Prim.Native.Nat.{ℕ, _+_, _*_, _%_, _^_, _≤_, _<_}
+use native.Mathlib.Nat.{mod-lt, mod-eq-of-lt, le-trans, mul-le-mul}
 use native.Mathlib.Omega.{arith}
+use lib.Dec.{eqb}
 use lib.ListN.{length}
 use lib.Pow.{pow-mono}
+use Rattle.spec_range.specs.Fold.{all}
 use Rattle.spec_range.specs.Table.{table, padded}
 use Rattle.spec_range.proofs.Table.{table-at}
 use Rattle.spec_field.specs.Field.{FieldOps}
 use Rattle.spec_field.specs.Symbols.{gf}
 use Rattle.spec_word.specs.Word.{at}
-use Rattle.spec_word.specs.Division.{divides}
+use Rattle.spec_word.specs.Division.{coefficients, allZero, remainder}
 use Rattle.spec_word.specs.CyclicCode.{isCode}
 use Rattle.spec_word.proofs.Place.{at-lt}
-use Rattle.spec_word.proofs.CyclicCode.{isCode-cong}
+use Rattle.spec_word.proofs.Unique.{remainder-same}
 use Rattle.word_array.specs.Stored as S
 use Rattle.word_array.specs.Stored.{place, Stored}
-use Rattle.spec_book.specs.Book.{Book, isCodeWord}
+use Rattle.spec_book.specs.Book.{Book, remainderBy, isCodeWord}
 use Rattle.spec_book.specs.Layout.{width, symbolDigits, fieldOf, bookOf}
 use Rattle.spec_book.specs.Conditions.{refusal}
 use Rattle.spec_book.proofs.Known.{book-sizes, book-accepted, book-laws, n-pos, n-high}
 use Rattle.word_table.specs.Multiples.{wordOf}
-use Rattle.word_divide.proofs.Degree.{divides-by}
+use Rattle.word_divide.specs.Window.{Remains}
+use Rattle.word_divide.proofs.Degree.{remainder-by}
+use Rattle.word_divide.proofs.Dividing.{remains-test}
 use Rattle.book.specs.Params.{Tabulated, Describes}
 use Rattle.book.specs.declared.Params.{Params}
 use Rattle.book_records.proofs.Tested.{readable}
@@ -53,8 +57,10 @@ module _ (bytes : List ℕ) (e : refusal width bytes ≡ 0) where
   unfolding at
   at-listed w = fun-ext (λ j. table-at (B .n) (place w) (mod-lt j (n-pos bytes e)))
 
-  pub code-at : (w : List ℕ) → isCode F (B .n) (B .degree) (B .generator) (place w) ≡ isCode F (B .n) (B .degree) (B .generator) (at (B .n) w)
-  code-at w = isCode-cong F (book-laws bytes e) (B .n) (B .degree) (B .generator) (place w) (at (B .n) w) (λ j l. sym (at-lt (B .n) w l))
+  -- the remainder goes by the symbols of a word, however they are held
+  remainder-of : (w : List ℕ) {f : ℕ → ℕ} → ((j : ℕ) → j < B .n → f j ≡ at (B .n) w j) → remainderBy F B f ≡ remainderBy F B (at (B .n) w)
+  remainder-of w {f} h =
+      remainder-same F (book-laws bytes e) (B .n) (B .degree) (B .generator) (book-accepted bytes e .generates) f (at (B .n) w) h
 
 -- ---- by the parameters that were read off the book
 
@@ -91,24 +97,38 @@ module _ (bytes : List ℕ) (c : Params) (d : Describes bytes c) where
 
   -- ---- the table of the generator
 
-  module _ {t : List ℕ} (h : Tabulated bytes (c .p) (c .n) t) where
-    -- the test for a code word, as it is made by the table and as it is defined
-    pub code-tabulated : (w : List ℕ)
-        → divides (gf (c .p)) (c .degree) (wordOf 128 (c .n) t) (c .n) (place w)
-        ≡ isCodeWord (fieldOf bytes) (bookOf width bytes) (at (bookOf width bytes .n) w)
-    unfolding isCode
-    code-tabulated w =
-        divides-by (gf (c .p)) (c .degree) same (c .n) (place w)
-        ∙ rw (d .p-is, d .n-is, d .degree-is) (code-at bytes (d .accepted) w)
-      where
-        same : (i : ℕ) → i < c .degree → wordOf 128 (c .n) t i ≡ bookOf width bytes .generator i
-        same i l =
-            let inside : i < c .n = omega (arith, d .n-is, d .degree-is, book-accepted bytes (d .accepted) .generates .degree-lt) in
-            h .word i ∙ at-lt (c .n) _ inside ∙ generator-loaded refl refl i
-
   -- what the division by the table asks of the degree
   pub degree-low : 1 ≤ c .degree
   degree-low = omega (arith, d .degree-is, book-accepted bytes (d .accepted) .generates .degree-pos)
 
   pub degree-high : c .degree < c .n
   degree-high = omega (arith, d .n-is, d .degree-is, book-accepted bytes (d .accepted) .generates .degree-lt)
+
+  module _ {t : List ℕ} (h : Tabulated bytes (c .p) (c .n) t) where
+    -- its word is the generator
+    pub word-is : (j : ℕ) → wordOf 128 (c .n) t j ≡ bookOf width bytes .generator (j % c .n)
+    unfolding at
+    word-is j = h .word j ∙ generator-loaded refl refl (j % c .n)
+
+    pub word-low : (i : ℕ) → i < c .degree → wordOf 128 (c .n) t i ≡ bookOf width bytes .generator i
+    word-low i l = word-is i ∙ ap (bookOf width bytes .generator) (mod-eq-of-lt (omega (arith, degree-high)))
+
+    -- a word w whose symbols f were divided, and what remained of them in an array
+    module _ (w : List ℕ) {f : ℕ → ℕ} (same : (j : ℕ) → j < c .n → f j ≡ at (c .n) w j) {r : List ℕ}
+        (m : Remains (c .p) (c .n) (c .degree) (wordOf 128 (c .n) t) f r) where
+      abbrev R : List ℕ
+      R = remainderBy (fieldOf bytes) (bookOf width bytes) (at (bookOf width bytes .n) w)
+
+      divided : remainder (gf (c .p)) (c .degree) (wordOf 128 (c .n) t) (c .n) f ≡ R
+      divided =
+          remainder-by (gf (c .p)) (c .degree) word-low (c .n) f
+          ∙ rw (d .p-is, d .n-is, d .degree-is) (remainder-of bytes (d .accepted) w (rw (d .n-is) at same))
+
+      -- the array starts with the definition's remainder
+      pub remainder-tabulated : (i : ℕ) → i < c .degree → place r i ≡ coefficients R i
+      remainder-tabulated i l = m .places i l ∙ ap (λ (R : List ℕ). coefficients R i) divided
+
+      -- and the test that is made of it is the definition's for a code word
+      pub code-tabulated : all (c .degree) (λ i. eqb (place r i) 0) ≡ isCodeWord (fieldOf bytes) (bookOf width bytes) (at (bookOf width bytes .n) w)
+      unfolding isCode
+      code-tabulated = remains-test m ∙ ap (allZero (c .degree)) divided ∙ ap (λ (k : ℕ). allZero k R) (d .degree-is)

@@ -1,26 +1,22 @@
--- What an open book gives to the code that works with it: the refusal numbers by the parameters, and the generator off its table.
+-- What an open book gives to the code that works with it: the refusal numbers by the parameters.
 -- Assumes nothing.
-use mathlib.Core.Path.{_≡_, refl, sym, ap, _∙_, subst}
+use mathlib.Core.Path.{_≡_, sym, _∙_, subst}
 use mathlib.Core.Bool.{Bool, true, false, cond}
 use mathlib.Core.List.{List}
-use Prim.Native.Nat.{ℕ, _-_, _%_, _^_, _≤_, _<_}
-use native.Mathlib.Nat.{mod-eq-of-lt}
+use Prim.Native.Nat.{ℕ, _-_, _^_, _≤_, _<_}
 use native.Mathlib.Omega.{arith}
 use lib.Dec.{eqb, eqb→eq}
 use lib.ListN.{length}
-use Rattle.spec_word.specs.Word.{at}
-use Rattle.spec_book.specs.Layout.{width, bookOf}
 use Rattle.spec_book.specs.Conditions.{inputRefusal}
 use Rattle.spec_book.proofs.Inputs.{accepted-input}
 use Rattle.spec_operations.specs.Coding.{codeInputRefusal, readInputRefusal}
+use Rattle.spec_operations.specs.Remainder.{remainderInputRefusal}
 use Rattle.word_array.specs.Stored.{place}
-use Rattle.word_table.specs.Multiples.{wordOf}
 use Rattle.book.specs.Opened.{fewSymbols, tableRoom, Opens, OpenBook}
 use Rattle.book.specs.declared.Opened.{Opened}
 use Rattle.book.specs.declared.Opened.the-variants.{Open}
 use Rattle.book.specs.declared.Params.{Params}
 use Rattle.book.proofs.Answering.{opens-open}
-use Rattle.book.proofs.Described.{generator-loaded, degree-high}
 
 -- the largest room is enough for the table of every book
 pub room-high : (bytes : List ℕ) → tableRoom bytes ≤ 8192
@@ -42,9 +38,9 @@ pub record Taken (p : ℕ) (input : List ℕ) (size room wanted : ℕ) : Type 0 
   pub room-is : room ≡ wanted
   pub symbol : (j : ℕ) → j < size → place input j < 2 ^ p
 
-taken : (p : ℕ) (input : List ℕ) (size room wanted : ℕ) {number q : ℕ} → q ≡ 2 ^ p
+pub taken : {p size wanted : ℕ} (input : List ℕ) (room : ℕ) {number q : ℕ} → q ≡ 2 ^ p
     → number ≡ inputRefusal q (eqb (length input) size) (eqb room wanted) input → number ≡ 0 → Taken p input size room wanted
-taken p input size room wanted hq h z =
+taken {size = size} {wanted} input room hq h z =
     let i = accepted-input _ _ _ input (sym h ∙ z) in
     let e : length input ≡ size = eqb→eq (length input) size (i .size) in
     record {
@@ -56,28 +52,16 @@ taken p input size room wanted hq h z =
 -- ---- by the bytes of the open book
 
 module _ {bytes : List ℕ} {c : Params} {t : List ℕ} (b : OpenBook bytes c t) where
-  -- the number that was found is the definition's, and what it tells where it is 0
+  -- the number that was found is the definition's
   module _ (input : List ℕ) (room : ℕ) {number q : ℕ} (hq : q ≡ 2 ^ c .p) where
-    module _ (h : number ≡ inputRefusal q (eqb (length input) (c .n - c .degree)) (eqb room (c .n)) input) where
-      pub code-number : number ≡ codeInputRefusal bytes input room
-      unfolding codeInputRefusal
-      code-number = h ∙ rw (hq, b .describes .p-is, b .describes .n-is, b .describes .degree-is)
+    pub code-number : number ≡ inputRefusal q (eqb (length input) (c .n - c .degree)) (eqb room (c .n)) input → number ≡ codeInputRefusal bytes input room
+    unfolding codeInputRefusal
+    code-number h = h ∙ rw (hq, b .describes .p-is, b .describes .n-is, b .describes .degree-is)
 
-      pub message-taken : number ≡ 0 → Taken (c .p) input (c .n - c .degree) room (c .n)
-      message-taken z = taken (c .p) input (c .n - c .degree) room (c .n) hq h z
+    pub read-number : number ≡ inputRefusal q (eqb (length input) (c .n)) (eqb room (c .n - c .degree)) input → number ≡ readInputRefusal bytes input room
+    unfolding readInputRefusal
+    read-number h = h ∙ rw (hq, b .describes .p-is, b .describes .n-is, b .describes .degree-is)
 
-    module _ (h : number ≡ inputRefusal q (eqb (length input) (c .n)) (eqb room (c .n - c .degree)) input) where
-      pub read-number : number ≡ readInputRefusal bytes input room
-      unfolding readInputRefusal
-      read-number = h ∙ rw (hq, b .describes .p-is, b .describes .n-is, b .describes .degree-is)
-
-      pub word-taken : number ≡ 0 → Taken (c .p) input (c .n) room (c .n - c .degree)
-      word-taken z = taken (c .p) input (c .n) room (c .n - c .degree) hq h z
-
-  -- the table's word is the generator
-  pub word-is : (j : ℕ) → wordOf 128 (c .n) t j ≡ bookOf width bytes .generator (j % c .n)
-  unfolding at
-  word-is j = b .table-is .word j ∙ generator-loaded bytes c (b .describes) refl refl (j % c .n)
-
-  pub word-low : (i : ℕ) → i < c .degree → wordOf 128 (c .n) t i ≡ bookOf width bytes .generator i
-  word-low i l = word-is i ∙ ap (bookOf width bytes .generator) (mod-eq-of-lt (omega (arith, degree-high bytes c (b .describes))))
+    pub remainder-number : number ≡ inputRefusal q (eqb (length input) (c .n)) (eqb room (c .degree)) input → number ≡ remainderInputRefusal bytes input room
+    unfolding remainderInputRefusal
+    remainder-number h = h ∙ rw (hq, b .describes .p-is, b .describes .n-is, b .describes .degree-is)

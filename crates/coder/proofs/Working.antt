@@ -1,4 +1,4 @@
--- What code and read write, from what their calls ensure.
+-- What code, read and remainder write, from what their calls ensure.
 -- Assumes nothing.
 use mathlib.Core.Path.{_≡_, refl, sym, ap, _∙_}
 use mathlib.Core.Bool.{Bool}
@@ -16,24 +16,26 @@ use Rattle.spec_field.specs.Symbols.{gf}
 use Rattle.spec_field.proofs.Gf.{gf-laws}
 use Rattle.spec_word.specs.Word.{at}
 use Rattle.spec_word.specs.Division.{coefficients}
-use Rattle.spec_word.specs.CyclicCode.{isCode}
 use Rattle.spec_word.proofs.Place.{at-lt}
 use Rattle.spec_word.proofs.Product.{product-cong}
+use Rattle.spec_word.proofs.Unique.{remainder-listed}
 use Rattle.spec_book.specs.Book.{isCodeWord}
 use Rattle.spec_book.specs.Layout.{width, fieldOf, bookOf}
+use Rattle.spec_book.proofs.Known.{book-laws, book-accepted}
 use Rattle.spec_coding.specs.Coder.{encode, message}
 use Rattle.spec_operations.specs.Coding.{coded, messageOf}
+use Rattle.spec_operations.specs.Remainder.{remainderOf}
 use Rattle.word_array.specs.Stored.{place, Sizes, Stored}
 use Rattle.word_table.specs.Multiples.{wordOf}
 use Rattle.word_table.specs.Rows.{turnedSum, Summands}
 use Rattle.word_table.proofs.Sums.{message-product}
 use Rattle.word_divide.specs.Window.{DividedBy}
-use Rattle.word_divide.proofs.Degree.{quotient-by, divides-by}
-use Rattle.word_divide.proofs.Dividing.{padded-stored, padded-divided, remains-test}
+use Rattle.word_divide.proofs.Degree.{quotient-by}
+use Rattle.word_divide.proofs.Dividing.{padded-stored, padded-divided}
 use Rattle.book.specs.Opened.{OpenBook}
 use Rattle.book.specs.declared.Params.{Params}
-use Rattle.book.proofs.Described.{params-sizes, degree-low}
-use Rattle.coder.proofs.Opening.{Taken, word-is, word-low}
+use Rattle.book.proofs.Described.{params-sizes, degree-low, word-is, word-low, remainder-tabulated, code-tabulated}
+use Rattle.coder.proofs.Opening.{Taken}
 
 module _ {bytes : List ℕ} {c : Params} {t : List ℕ} (b : OpenBook bytes c t) where
   sizes : Sizes (c .p) (c .n)
@@ -68,10 +70,10 @@ module _ {bytes : List ℕ} {c : Params} {t : List ℕ} (b : OpenBook bytes c t)
         ∙ table-same (c .n) (λ j l.
         message-product f sizes (omega (arith, sizes .n-high)) (b .table-is .multiples) within (le-of-eq (i .size-is ∙ sym whole))
         (λ u d. i .symbol u (omega arith)) hr j l
-        ∙ product-cong (gf (c .p)) (gf-laws (c .p) (sizes .p-low) (sizes .p-high)) (c .n) (λ u _. refl) (word-is b) j)
+        ∙ product-cong (gf (c .p)) (gf-laws (c .p) (sizes .p-low) (sizes .p-high)) (c .n) (λ u _. refl) (word-is bytes c (b .describes) (b .table-is)) j)
         ∙ rw (b .describes .p-is, b .describes .n-is)
 
-  -- ---- read
+  -- ---- read and remainder: a word that was loaded and divided
 
   module _ (word : List ℕ) {v : List ℕ} (loaded : v ≡ padded 63 (c .n) (λ j. place word (0 + j))) where
     pub word-stored : {room wanted : ℕ} → Taken (c .p) word (c .n) room wanted → Stored (c .p) (c .n) v
@@ -86,11 +88,9 @@ module _ {bytes : List ℕ} {c : Params} {t : List ℕ} (b : OpenBook bytes c t)
       -- the test of the remainder's places
       pub word-tested : {count : ℕ} {zero : Bool} → zero ≡ all count (λ j. eqb (place r j) 0) → count ≡ c .degree
           → zero ≡ isCodeWord (fieldOf bytes) (bookOf width bytes) (at (bookOf width bytes .n) word)
-      unfolding isCode
       word-tested e k =
-          e ∙ ap (λ (d : ℕ). all d (λ j. eqb (place r j) 0)) k ∙ remains-test (divided .remains)
-          ∙ divides-by (gf (c .p)) (c .degree) (word-low b) (c .n) (at (c .n) word)
-          ∙ rw (b .describes .p-is, b .describes .n-is, b .describes .degree-is)
+          e ∙ ap (λ (d : ℕ). all d (λ j. eqb (place r j) 0)) k
+          ∙ code-tabulated bytes c (b .describes) (b .table-is) word (λ j l. refl) (divided .remains)
 
       pub word-read : {room : ℕ} {out : List ℕ} → room ≡ c .n - c .degree → out ≡ table room (place q) → out ≡ messageOf bytes word
       unfolding message
@@ -98,5 +98,12 @@ module _ {bytes : List ℕ} {c : Params} {t : List ℕ} (b : OpenBook bytes c t)
           ho ∙ ap (λ (k : ℕ). table k (place q)) hr
           ∙ table-same (c .n - c .degree) (λ i l.
           divided .places i l
-          ∙ ap (λ (Q : List ℕ). coefficients Q i) (quotient-by (gf (c .p)) (c .degree) (word-low b) (c .n) (at (c .n) word)))
+          ∙ ap (λ (Q : List ℕ). coefficients Q i) (quotient-by (gf (c .p)) (c .degree) (word-low bytes c (b .describes) (b .table-is)) (c .n) (at (c .n) word)))
           ∙ rw (b .describes .p-is, b .describes .n-is, b .describes .degree-is)
+
+      pub word-remainder : {room : ℕ} {out : List ℕ} → room ≡ c .degree → out ≡ table room (place r) → out ≡ remainderOf bytes word
+      word-remainder hr ho =
+          ho ∙ ap (λ (k : ℕ). table k (place r)) hr
+          ∙ table-same (c .degree) (remainder-tabulated bytes c (b .describes) (b .table-is) word (λ j l. refl) (divided .remains))
+          ∙ ap (λ (k : ℕ). table k (coefficients (remainderOf bytes word))) (b .describes .degree-is)
+          ∙ remainder-listed _ (book-laws bytes (b .describes .accepted)) _ _ _ (book-accepted bytes (b .describes .accepted) .generates) _

@@ -1,9 +1,10 @@
-// Coding a message and reading it back, for all inputs.
+// Coding a message, reading it back, and the remainder of any word, for all inputs.
 ghost use mathlib.Core.List.{List};
 ghost use Prim.Native.Nat.{ℕ};
 ghost use lib.ListN.{length};
 ghost use Rattle.spec_operations.specs.Wrote.{Wrote};
 ghost use Rattle.spec_operations.specs.Coding.{codeInputRefusal, codeRefusal, coded, readWordRefusal, readRefusal, messageOf};
+ghost use Rattle.spec_operations.specs.Remainder.{remainderInputRefusal, remainderRefusal, remainderOf};
 ghost use Rattle.refusals.specs.Said.{said};
 ghost use Rattle.book.specs.Opened.{OpenBook, SomeBook};
 use book::Opened;
@@ -11,6 +12,7 @@ use book::Params;
 use refusals::Done;
 
 pub mod trips;
+pub mod sorting;
 
 // Code a message of k symbols into a word of n.
 pub fn code(book: &[u8], message: &[u8], word: &mut [u8]) -> Done
@@ -79,5 +81,39 @@ fn read_word(c: Params, t: &[u8], word: &[u8], message: &mut [u8]) -> Done
     }
     let quotient = parts.quotient;
     word_array::store(&quotient, message);
+    Done::Made
+}
+
+// Write the remainder of a word by the generator, which is zero for a code word alone.
+pub fn remainder(book: &[u8], word: &[u8], out: &mut [u8]) -> Done
+    ensures { λ r. ⌜ Wrote (remainderRefusal (now (book .entry)) (now (word .entry)) (length (now (out .entry))))
+        (remainderOf (now (book .entry)) (now (word .entry))) (now (out .entry)) (said r) (now (out .exit)) ⌝ }
+{
+    let mut t = book::table_room();
+    let opened = book::open(book, &mut t);
+    match opened {
+        Opened::Refused(number) => Done::Refused(number),
+        Opened::Open(c) => remainder_word(c, &t, word, out),
+    }
+}
+
+// The same once the book is open.
+fn remainder_word(c: Params, t: &[u8], word: &[u8], out: &mut [u8]) -> Done
+    requires { ⌜ SomeBook c (now t) ⌝ }
+    ensures { λ r. ⌜ ((bytes : List ℕ) → OpenBook bytes c (now (t .entry))
+        → Wrote (remainderInputRefusal bytes (now (word .entry)) (length (now (out .entry))))
+        (remainderOf bytes (now (word .entry))) (now (out .entry)) (said r) (now (out .exit))) ⌝ }
+{
+    let n = c.n;
+    let d = c.degree;
+    let q = field::order(c.p);
+    let number = refusals::refusal(q, word.len() == n, out.len() == d, word);
+    if number != 0 {
+        return Done::Refused(number);
+    }
+    let w = word_array::load(word, 0, n);
+    let parts = word_divide::divide(c.p, n, d, t, w);
+    let rest = parts.remainder;
+    word_array::store(&rest, out);
     Done::Made
 }

@@ -1,7 +1,7 @@
 -- One round, from what its calls ensure.
 -- Assumes nothing.
-use mathlib.Core.Path.{_≡_, sym, ap, ap₂, _∙_, subst}
-use mathlib.Core.Bool.{Bool, true, _&&_}
+use mathlib.Core.Path.{_≡_, refl, sym, ap, ap₂, _∙_, subst}
+use mathlib.Core.Bool.{Bool, true, false, _&&_}
 use mathlib.Core.List.{List}
 use Prim.Native.Nat.{ℕ, _*_, _^_, _<_}
 use lib.Bits.{bitXor}
@@ -15,10 +15,10 @@ use Rattle.spec_range.proofs.Loop.{padded-at}
 use Rattle.spec_field.specs.Field.{FieldOps}
 use Rattle.spec_field.specs.Symbols.{gf}
 use Rattle.spec_word.specs.Word.{at}
-use Rattle.spec_word.specs.Division.{divides}
 use Rattle.spec_word.proofs.Place.{at-lt}
 use Rattle.word_array.specs.Stored.{place, Stored}
 use Rattle.word_table.specs.Multiples.{wordOf}
+use Rattle.word_divide.specs.Window.{Remains}
 use Rattle.spec_book.specs.Book.{Book, isCodeWord}
 use Rattle.spec_book.specs.Layout.{width, symbolDigits, fieldOf, bookOf}
 use Rattle.spec_book.specs.Conditions.{refusal}
@@ -33,6 +33,7 @@ use Rattle.spec_decoding.proofs.Update.{correction-below}
 use Rattle.spec_decoding.proofs.Empty.{empty-zero}
 use Rattle.decode_rounds.specs.Rounds.{listed, made, Prepared, stepOf, Stepped}
 use Rattle.decode_rounds.specs.declared.Step.{Step}
+use Rattle.decode_rounds.specs.declared.Step.the-variants.{Empty}
 use Rattle.book.proofs.Described.{at-listed, code-tabulated}
 
 pub params-fillable : (bytes : List ℕ) (c : Params) → Describes bytes c → Fillable bytes (c .p) (c .n) (c .duals)
@@ -112,8 +113,15 @@ module _ (bytes : List ℕ) (make : (ℕ → ℕ) → List ℕ) (c : Params) (w 
   pub round-stored : Stored (symbolDigits bytes) (bookOf width bytes .n) w′
   round-stored = corrected-stored bytes (d .accepted) make w word m v w′ made-matrix made-corrections made-word
 
-  pub round-done : {t : List ℕ} → Tabulated bytes (c .p) (c .n) t → {s : Step} (empty reached : Bool) → s ≡ stepOf empty reached → all (c .n) (λ j. eqb (place v j) 0) ≡ empty
-      → divides (gf (c .p)) (c .degree) (wordOf 128 (c .n) t) (c .n) (place w′) ≡ reached → Stepped bytes make w (record { step = s; word = w′ }) m
-  round-done ht empty reached s p q =
-      stepped bytes (d .accepted) make w word m v w′ made-matrix made-corrections made-word empty reached s
-      (rw (d .n-is) at p) (sym (code-tabulated bytes c d ht w′) ∙ q)
+  -- the update set is empty
+  pub round-empty : {s : Step} → s ≡ Empty → all (c .n) (λ j. eqb (place v j) 0) ≡ true → Stepped bytes make w (record { step = s; word = w′ }) m
+  round-empty s p =
+      stepped bytes (d .accepted) make w word m v w′ made-matrix made-corrections made-word true _ s (rw (d .n-is) at p) refl
+
+  -- it is not, and the new word was divided
+  pub round-divided : {t rest : List ℕ} → Tabulated bytes (c .p) (c .n) t → Remains (c .p) (c .n) (c .degree) (wordOf 128 (c .n) t) (place w′) rest
+      → {s : Step} (reached : Bool) → s ≡ stepOf false reached → all (c .n) (λ j. eqb (place v j) 0) ≡ false
+      → all (c .degree) (λ i. eqb (place rest i) 0) ≡ reached → Stepped bytes make w (record { step = s; word = w′ }) m
+  round-divided ht h reached s p q =
+      stepped bytes (d .accepted) make w word m v w′ made-matrix made-corrections made-word false reached s
+      (rw (d .n-is) at p) (sym (code-tabulated bytes c d ht w′ (λ j l. sym (at-lt (c .n) w′ l)) h) ∙ q)

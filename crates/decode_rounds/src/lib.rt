@@ -40,7 +40,7 @@ pub struct End {
     pub word: Word,
 }
 
-// One round: makes the matrix and the update set, subtracts, and tests for a code word.
+// One round: makes the matrix and the update set, subtracts, and divides: a code word leaves the remainder zero.
 fn round(c: Params, t: &[u8], terms: &[u16], w: Word, m: &mut [u16]) -> Rounded
     requires { ⌜ Ready c (now t) (now terms) w (now m) ⌝ }
     ensures { λ r. ⌜ ((bytes : List ℕ) → Prepared bytes c (now (t .entry)) (now (terms .entry))
@@ -56,7 +56,9 @@ fn round(c: Params, t: &[u8], terms: &[u16], w: Word, m: &mut [u16]) -> Rounded
             word: next,
         };
     }
-    if word_divide::divides(c.p, n, c.degree, t, next) {
+    let parts = word_divide::divide(c.p, n, c.degree, t, next);
+    let rest = parts.remainder;
+    if word_array::is_zero(c.degree, &rest) {
         return Rounded {
             step: Step::Reached,
             word: next,
@@ -109,14 +111,16 @@ fn go(c: Params, t: &[u8], terms: &[u16], r: Word, m: &mut [u16]) -> End
     }
 }
 
-// Decodes the word r: Clean where it is a code word, with a matrix of zeros; else by rounds, before the first of which the terms are listed.
+// Decodes the word r: Clean where its remainder is zero, with a matrix of zeros; else by rounds, before the first of which the terms are listed.
 pub fn run(book: &[u8], c: Params, t: &[u8], terms: &mut [u16], r: Word, m: &mut [u16]) -> End
     requires { ⌜ Describes (now book) c × Tabulated (now book) (c .p) (c .n) (now t) × TermsRoom (now book) c (now terms)
         × Stored (c .p) (c .n) r × (length (now m) ≡ 2 ^ c .p * c .n) ⌝ }
     ensures { λ x. ⌜ Ended (now (book .entry)) (decode (fieldOf (now (book .entry))) (bookOf width (now (book .entry))) (listed (now (book .entry)) r)) x
         (now (m .exit)) × TermsRoom (now (book .entry)) c (now (terms .exit)) ⌝ }
 {
-    if word_divide::divides(c.p, c.n, c.degree, t, r) {
+    let parts = word_divide::divide(c.p, c.n, c.degree, t, r);
+    let rest = parts.remainder;
+    if word_array::is_zero(c.degree, &rest) {
         matrix::clear(m);
         return End {
             kind: Kind::Clean,

@@ -1,9 +1,10 @@
-// The C boundary: check, code, read and decode on numbers and byte slices. A `&[u8]` is a pointer and a length in C. The matrix is a local buffer.
+// The C boundary: check, code, read, remainder and decode on numbers and byte slices. A `&[u8]` is a pointer and a length in C. The matrix is a local buffer.
 ghost use mathlib.Core.Path.{_≡_};
 ghost use mathlib.Core.List.{[]};
 ghost use lib.ListN.{length};
 ghost use Rattle.spec_operations.specs.Check.{checkAnswer};
 ghost use Rattle.spec_operations.specs.Coding.{codeRefusal, coded, readRefusal, messageOf};
+ghost use Rattle.spec_operations.specs.Remainder.{remainderRefusal, remainderOf};
 ghost use Rattle.spec_operations.specs.Decoding.{matrixSize, decodeRefusal, decodeBytes, values};
 ghost use Rattle.spec_operations.specs.Packed.{packed, Returns};
 ghost use Rattle.refusals.specs.Said as done;
@@ -73,6 +74,15 @@ pub extern "C" fn shiftsum_read(book: &[u8], word: &[u8], message: &mut [u8]) ->
         [] (messageOf (now (book .entry)) (now (word .entry))) (now (message .entry)) r (now (message .exit)) ⌝ }
 {
     pack_done(coder::read(book, word, message))
+}
+
+// Write the remainder of a word.
+#[no_mangle]
+pub extern "C" fn shiftsum_remainder(book: &[u8], word: &[u8], remainder: &mut [u8]) -> u32
+    ensures { λ r. ⌜ Returns (remainderRefusal (now (book .entry)) (now (word .entry)) (length (now (remainder .entry))))
+        [] (remainderOf (now (book .entry)) (now (word .entry))) (now (remainder .entry)) r (now (remainder .exit)) ⌝ }
+{
+    pack_done(coder::remainder(book, word, remainder))
 }
 
 // Room for the largest matrix. Only its length matters: every entry is written before it is read.

@@ -1,12 +1,15 @@
--- What a refusal number of 0 tells of an input.
+-- What a refusal number of 0 tells of an input, and which inputs have it.
 -- Assumes nothing.
-use mathlib.Core.Path.{_≡_}
+use mathlib.Core.Path.{_≡_, _∙_, subst}
 use mathlib.Core.Bool.{Bool}
 use mathlib.Core.List.{List}
 use Prim.Native.Nat.{ℕ, _<_}
-use lib.Dec.{T, ltb, ltb→lt}
+use lib.Dec.{T, eqb, ltb, lt→ltb, ltb→lt}
 use lib.ListN.{length, getD}
-use Rattle.spec_range.proofs.Table.{all-at}
+use Rattle.spec_range.proofs.Tests.{eq→eqb, cond-true}
+use Rattle.spec_range.proofs.Table.{all-at, all-of}
+use Rattle.spec_field.specs.Field.{FieldOps}
+use Rattle.spec_word.specs.Word.{IsWord}
 use Rattle.spec_book.specs.Conditions.{inputOk, inputRefusal}
 use Rattle.spec_book.proofs.Sound.{passed}
 
@@ -25,4 +28,19 @@ accepted-input q fits exact input e =
       size = e₁ .0;
       sizes = e₂ .0;
       symbol = λ j l. ltb→lt (getD input j 0) q (all-at (length input) (λ j. ltb (getD input j 0) q) (e₃ .0) j l);
+    }
+
+pub input-accepted : {q : ℕ} {fits exact : Bool} {input : List ℕ} → AcceptedInput q fits exact input → inputRefusal q fits exact input ≡ 0
+unfolding inputRefusal inputOk
+input-accepted {q} {fits} {exact} {input} h =
+    cond-true fits _ _ (h .size) ∙ cond-true exact _ _ (h .sizes)
+    ∙ cond-true (inputOk q input) 0 11 (all-of (length input) (λ j. ltb (getD input j 0) q) (λ j l. lt→ltb (getD input j 0) q (h .symbol j l)))
+
+-- a word of n symbols as an input
+pub word-input : {F : FieldOps} {n : ℕ} {w : List ℕ} {exact : Bool} → IsWord F n w → T exact → AcceptedInput (F .q) (eqb (length w) n) exact w
+word-input h t =
+    record {
+      size = eq→eqb (h .size);
+      sizes = t;
+      symbol = λ j l. h .symbol j (subst (λ (k : ℕ). j < k) (h .size) l);
     }

@@ -2,9 +2,11 @@
 -- Assumes nothing.
 use mathlib.Core.Path.{_≡_}
 use mathlib.Core.Bool.{Bool}
+use mathlib.Core.List.{List}
 use Prim.Native.Nat.{ℕ, _-_, _+_, _<_}
 use Rattle.spec_field.specs.Field.{FieldOps}
 use Rattle.spec_word.specs.Word.{weight, product}
+use Rattle.spec_word.specs.Division.{remainder}
 use Rattle.spec_word.specs.CyclicCode.{Generator, isCode}
 
 -- SCOPE 3.1: what a codebook's records hold
@@ -26,7 +28,11 @@ pub record Book : Type 0 where
 abbrev pub messageLength : Book → ℕ
 messageLength B = B .n - B .degree
 
--- SCOPE 4.4: a word is a code word of the book
+-- SCOPE 4.32: the remainder of a word by the generator: n − k symbols, which is the degree, from x^0
+abbrev pub remainderBy : FieldOps → Book → (ℕ → ℕ) → List ℕ
+remainderBy F B w = remainder F (B .degree) (B .generator) (B .n) w
+
+-- SCOPE 4.4: a word is a code word of the book: all n − k symbols of its remainder are zero
 abbrev pub isCodeWord : FieldOps → Book → (ℕ → ℕ) → Bool
 isCodeWord F B w = isCode F (B .n) (B .degree) (B .generator) w
 

@@ -1,11 +1,11 @@
--- Cases 1 to 14, proved together of the definitions, and that the books they use are accepted.
+-- Cases 1 to 14 and the remainders, each list proved together of the definitions, and that the books they use are accepted.
 -- Assumes nothing.
 use mathlib.Core.Path.{refl}
 use Rattle.spec_range.specs.Fold.{fold}
 use Rattle.spec_range.specs.Table.{table}
 use Rattle.spec_field.specs.Symbols.{polynomial, timesX, shiftAdd, product, first, inverse}
 use Rattle.spec_word.specs.Word as W
-use Rattle.spec_word.specs.Division.{before, reduce, remainder, divides}
+use Rattle.spec_word.specs.Division.{before, allZero, reduce, remainder, divides}
 use Rattle.spec_word.specs.CyclicCode.{unity, isCode}
 use Rattle.spec_book.specs.Layout.{degreeOf, bookOf}
 use Rattle.spec_book.specs.Conditions.{lengthOk, kindsOk, sizesOk, bodyOk, symbolsOk, generatorOk, limitsOk, dualOk, dualsOk, alike, distinctOk, bookRefusal, refusal}
@@ -13,12 +13,16 @@ use Rattle.spec_coding.specs.Coder.{encode}
 use Rattle.spec_decoding.specs.Matrix.{checkSum, checkValue, entryOf, matrixOf, cell}
 use Rattle.spec_decoding.specs.Decode.{peak, zeroCount, peakCount, holders, inUpdateSet, correction, emptyUpdateSet, corrected, run, decodeWith}
 use Rattle.spec_decoding.specs.Symmetry.{move}
-use Rattle.spec_cases.specs.Cases.{checks, codes, fills, decodes, holds, moved, cases, accepted, AllHold, none, _also_}
+use Rattle.spec_cases.specs.Cases.{checks, codes, fills, decodes, holds, leaves, moved, cases, remainders, accepted, AllHold, none, _also_}
 
 pub cases-hold : AllHold cases
-unfolding codes fills decodes holds moved fold table polynomial timesX shiftAdd product first inverse W.at W.distance W.turn W.product W.scale W.plus before reduce remainder divides isCode degreeOf bookOf encode checkSum checkValue entryOf matrixOf cell peak zeroCount peakCount holders inUpdateSet correction emptyUpdateSet corrected run decodeWith move
+unfolding codes fills decodes holds moved fold table polynomial timesX shiftAdd product first inverse W.at W.distance W.turn W.product W.scale W.plus before allZero reduce remainder isCode degreeOf bookOf encode checkSum checkValue entryOf matrixOf cell peak zeroCount peakCount holders inUpdateSet correction emptyUpdateSet corrected run decodeWith move
 cases-hold = refl also refl also refl also refl also refl also refl also refl also refl also refl also refl also refl also refl also refl also refl also refl also none
 
+pub remainders-hold : AllHold remainders
+unfolding leaves fold table polynomial timesX shiftAdd product W.at before reduce remainder degreeOf bookOf
+remainders-hold = refl also refl also refl also refl also refl also none
+
 pub books-accepted : AllHold accepted
-unfolding checks fold table polynomial timesX shiftAdd product W.weight W.product before reduce remainder divides unity degreeOf bookOf lengthOk kindsOk sizesOk bodyOk symbolsOk generatorOk limitsOk dualOk dualsOk alike distinctOk bookRefusal refusal
+unfolding checks fold table polynomial timesX shiftAdd product W.weight W.product before allZero reduce remainder divides unity degreeOf bookOf lengthOk kindsOk sizesOk bodyOk symbolsOk generatorOk limitsOk dualOk dualsOk alike distinctOk bookRefusal refusal
 books-accepted = refl also refl also refl also refl also refl also refl also none

@@ -1,4 +1,4 @@
--- SCOPE 8: The worked cases 1 to 14: what the definitions give, and what SCOPE.md has.
+-- SCOPE 8: The worked cases 1 to 14 and remainders: what the definitions give, and what SCOPE.md has.
 -- Assumes nothing.
 use mathlib.Core.Path.{_≡_}
 use mathlib.Core.List.{List, [], _∷_}
@@ -6,6 +6,7 @@ use Prim.Native.Nat.{ℕ}
 use Rattle.spec_range.specs.Table.{table}
 use Rattle.spec_field.specs.Symbols.{product}
 use Rattle.spec_word.specs.Word.{at}
+use Rattle.spec_book.specs.Book.{remainderBy}
 use Rattle.spec_book.specs.Layout.{width, fieldOf, bookOf, wordLength}
 use Rattle.spec_book.specs.Conditions.{refusal}
 use Rattle.spec_coding.specs.Coder.{encode}
@@ -64,6 +65,15 @@ holds book r =
     let entries = matrix F B (at (B .n) r) in
     numbers (table (B .n) (holders F B (cell F B entries)))
 
+-- SCOPE 4.32: the symbols that remainder writes
+unfoldable pub leaves : List ℕ → List ℕ → Shown
+leaves book w =
+    let bytes = book in
+    let F = fieldOf bytes in
+    let B = bookOf width bytes in
+    let R = remainderBy F B (at (B .n) w) in
+    numbers R
+
 -- SCOPE 5.11: the word w turned by t, times c, plus v
 unfoldable pub moved : List ℕ → ℕ → ℕ → List ℕ → List ℕ → List ℕ
 moved book t c v w =
@@ -104,6 +114,19 @@ cases =
     ∷ (decodes (bookC 2) (1 ∷ 0 ∷ 0 ∷ []) ≡ decoded stalled 1 0 (1 ∷ 0 ∷ 0 ∷ []))
     -- 14. (SCOPE 8.14) C with D 3, 100: Mended, 1, 3, 032
     ∷ (decodes (bookC 3) (1 ∷ 0 ∷ 0 ∷ []) ≡ decoded mended 1 3 (0 ∷ 3 ∷ 2 ∷ []))
+    ∷ []
+
+-- SCOPE 8.20: remainders
+abbrev pub remainders : List (Type 0)
+remainders =
+    -- A: 1000000 leaves 100, and 0001000 leaves 110, from x^0
+    (leaves (bookA 1) (1 ∷ 0 ∷ 0 ∷ 0 ∷ 0 ∷ 0 ∷ 0 ∷ []) ≡ numbers (1 ∷ 0 ∷ 0 ∷ []))
+    ∷ (leaves (bookA 1) (0 ∷ 0 ∷ 0 ∷ 1 ∷ 0 ∷ 0 ∷ 0 ∷ []) ≡ numbers (1 ∷ 1 ∷ 0 ∷ []))
+    -- A: the code word 1101000 leaves 000, and 1100000, which is 0001000 plus it, leaves 110 too
+    ∷ (leaves (bookA 1) (1 ∷ 1 ∷ 0 ∷ 1 ∷ 0 ∷ 0 ∷ 0 ∷ []) ≡ numbers (0 ∷ 0 ∷ 0 ∷ []))
+    ∷ (leaves (bookA 1) (1 ∷ 1 ∷ 0 ∷ 0 ∷ 0 ∷ 0 ∷ 0 ∷ []) ≡ numbers (1 ∷ 1 ∷ 0 ∷ []))
+    -- B: 321 leaves 23, since x^2 is 1 + x
+    ∷ (leaves bookB (3 ∷ 2 ∷ 1 ∷ []) ≡ numbers (2 ∷ 3 ∷ []))
     ∷ []
 
 -- every case of a list holds

@@ -13,7 +13,7 @@ use Rattle.spec_range.specs.Table.{table}
 use Rattle.spec_field.specs.Field.{FieldOps, FieldLaws}
 use Rattle.spec_word.specs.Word.{at, product}
 use Rattle.spec_word.specs.Division.{coefficients, quotient}
-use Rattle.spec_word.specs.CyclicCode.{Generator, isCode}
+use Rattle.spec_word.specs.CyclicCode.{Generator}
 use Rattle.spec_book.specs.Book.{Book, Usable, messageLength, isCodeWord}
 use Rattle.spec_coding.specs.Coder.{encode, message}
 use Rattle.spec_range.proofs.Fold.{fold-cong, fold-extend}
@@ -67,9 +67,8 @@ module _ (F : FieldOps) (laws : FieldLaws F) (B : Book) (ok : Usable F B) where
     as-combined j l = encode-times f exact j l ∙ sym (L.zero-add F laws _)
 
     pub encode-code : T (isCodeWord F B (at n (encode F B f)))
-    unfolding isCode
     encode-code =
-        D.divided-test F degree generator laws n (at n (encode F B f)) (λ i h.
+        D.divided-code F degree generator laws n (at n (encode F B f)) (λ i h.
         D.remainder-cong F degree generator laws n (at n (encode F B f)) combined as-combined i
         ∙ Q.combine-remainder F degree generator laws degree-pos monic above (n - degree) n (coefficients f) (λ j. 0) symbols
         (λ i _. refl) (omega (arith, degree-lt)) i h)
@@ -108,7 +107,6 @@ module _ (F : FieldOps) (laws : FieldLaws F) (B : Book) (ok : Usable F B) where
 
     -- a code word is the product of its message and g
     pub encode-message : T (isCodeWord F B (at n w)) → encode F B (message F B w) ≡ w
-    unfolding isCode
     encode-message t =
         ext-getD 0 (encode F B (message F B w)) w (length-encode ∙ sym (hw .exact)) (λ j l. same j (subst (λ (x : ℕ). j < x) length-encode l))
       where
@@ -134,4 +132,4 @@ module _ (F : FieldOps) (laws : FieldLaws F) (B : Book) (ok : Usable F B) where
           where
             none : Dec (degree ≤ j) → D.remainderAt F degree generator n (at n w) j ≡ 0
             none (yes h) = Q.remainder-above F degree generator laws degree-pos monic above n (at n w) (hw .symbols) j h
-            none (no h) = D.divided-of F degree generator laws n (at n w) t j (omega arith)
+            none (no h) = D.code-divided F degree generator laws n (at n w) t j (omega arith)

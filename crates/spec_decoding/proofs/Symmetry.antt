@@ -14,10 +14,9 @@ use Rattle.spec_decoding.specs.Matrix.{matrix, cell}
 use Rattle.spec_decoding.specs.Decode.{Result, decode}
 use Rattle.spec_decoding.specs.Symmetry.{move, Moved}
 use Rattle.spec_field.proofs.Laws as L
-use Rattle.spec_word.specs.CyclicCode.{isCode}
 use Rattle.spec_word.proofs.Place.{SymbolList, list-word, turn-back, turn-on, at-same, at-lt, at-table, table-symbols}
 use Rattle.spec_word.proofs.Product.{Shifted}
-use Rattle.spec_word.proofs.Division.{divided-of}
+use Rattle.spec_word.proofs.Division.{code-divided}
 use Rattle.spec_word.proofs.CyclicCode.{CodeWord, n-pos, isCode-shifted}
 use Rattle.spec_decoding.proofs.Matrix.{matrix-shifted}
 use Rattle.spec_decoding.proofs.Motion.{Motion, MovedMatrix, MovedWord}
@@ -60,8 +59,7 @@ module _ (F : FieldOps) (laws : FieldLaws F) (B : Book) (ok : Usable F B) where
       Moves w w′ = MovedWord motion (at n v) (at n w) (at n w′)
 
       code : CodeWord F laws n degree generator generates (at n v)
-      unfolding isCode
-      code = divided-of F degree generator laws n (at n v) v-code
+      code = code-divided F degree generator laws n (at n v) v-code
 
       -- the places below n stand for all
       shifted : (w w′ : List ℕ) → Moves w w′ → Shifted F t c (at n v) (at n w) (at n w′)

@@ -6,11 +6,11 @@ use mathlib.Core.List.{List}
 use Prim.Native.Nat.{ℕ, zero, suc, pred, _%_, _<_}
 use native.Mathlib.Decide.{decLt}
 use native.Mathlib.Omega.{arith}
-use lib.Dec.{T, eqb, eqb→eq, ltb, lt→ltb}
+use lib.Dec.{T, eqb, eqb→eq}
 use lib.ListN.{length, getD, List·getD-eq-default}
 use Rattle.spec_range.specs.Table.{table}
 use Rattle.spec_range.proofs.Tests.{eq→eqb, cond-true}
-use Rattle.spec_range.proofs.Table.{table-length, table-at, all-of}
+use Rattle.spec_range.proofs.Table.{table-length, table-at}
 use Rattle.spec_field.specs.Field.{FieldOps, FieldLaws}
 use Rattle.spec_field.specs.Answer.{Answer, orElse}
 use Rattle.spec_field.proofs.Laws.{zero-below}
@@ -23,14 +23,15 @@ use Rattle.spec_word.proofs.Division.{remainder-below}
 use Rattle.spec_word.proofs.Quotient.{quotientAt, quotient-at}
 use Rattle.spec_book.specs.Book.{Book, messageLength, isCodeWord}
 use Rattle.spec_book.specs.Layout.{width, fieldOf, bookOf}
-use Rattle.spec_book.specs.Conditions.{unless, refusal, codeWordRefusal, inputOk, inputRefusal}
+use Rattle.spec_book.specs.Conditions.{unless, refusal, codeWordRefusal}
 use Rattle.spec_book.proofs.Sound.{passed}
 use Rattle.spec_book.proofs.Known.{book-laws, book-accepted}
-use Rattle.spec_book.proofs.Inputs.{AcceptedInput, accepted-input}
+use Rattle.spec_book.proofs.Inputs.{AcceptedInput, accepted-input, input-accepted}
 use Rattle.spec_coding.specs.Coder.{encode, message}
 use Rattle.spec_coding.proofs.Coder.{encode-code, message-encode, encode-message}
 use Rattle.spec_operations.specs.Wrote.{Wrote}
 use Rattle.spec_operations.specs.Coding.{codeInputRefusal, codeRefusal, coded, readInputRefusal, readWordRefusal, readRefusal, messageOf}
+use Rattle.spec_operations.proofs.Wrote.{goes-on}
 
 -- ---- a whole call, where n was found for the book
 
@@ -46,13 +47,11 @@ module _ (bytes input : List ℕ) (room : ℕ) {n : ℕ} (e : n ≡ refusal widt
   module _ (z : n ≡ 0) {new old out : List ℕ} {a : Answer} where
     pub code-goes-on : Wrote (codeInputRefusal bytes input room) new old a out → Wrote (codeRefusal bytes input room) new old a out
     unfolding codeRefusal
-    code-goes-on h =
-        subst (λ (k : ℕ). Wrote k new old a out) (found-next n (refusal width bytes) (codeInputRefusal bytes input room) e z) h
+    code-goes-on h = goes-on e z h
 
     pub read-goes-on : Wrote (readWordRefusal bytes input room) new old a out → Wrote (readRefusal bytes input room) new old a out
     unfolding readRefusal
-    read-goes-on h =
-        subst (λ (k : ℕ). Wrote k new old a out) (found-next n (refusal width bytes) (readWordRefusal bytes input room) e z) h
+    read-goes-on h = goes-on e z h
 
 -- ---- the number of read once the book is open, where n was found for the sizes and the symbols
 
@@ -72,7 +71,7 @@ module _ (bytes word : List ℕ) (room : ℕ) {n : ℕ} (e : n ≡ readInputRefu
     pub code-word : t ≡ true → readWordRefusal bytes word room ≡ 0
     code-word f = sym last ∙ ap (λ (t : Bool). unless t 12 0) f
 
--- ---- an input as it should be: its symbols, and that it is not refused
+-- ---- an input as it should be
 
 -- an accepted input has symbols at its places, and 0 past them
 input-symbols : (F : FieldOps) → FieldLaws F → {fits exact : Bool} {input : List ℕ} → AcceptedInput (F .q) fits exact input → Symbols F (coefficients input)
@@ -81,12 +80,6 @@ input-symbols F laws {input = input} h j = go (decLt j (length input))
     go : Dec (j < length input) → getD input j 0 < F .q
     go (yes l) = h .symbol j l
     go (no l) = subst (λ (x : ℕ). x < F .q) (sym (List·getD-eq-default input 0 (omega arith))) (zero-below F laws)
-
-input-accepted : {q : ℕ} {fits exact : Bool} {input : List ℕ} → AcceptedInput q fits exact input → inputRefusal q fits exact input ≡ 0
-unfolding inputRefusal inputOk
-input-accepted {q} {fits} {exact} {input} h =
-    cond-true fits _ _ (h .size) ∙ cond-true exact _ _ (h .sizes)
-    ∙ cond-true (inputOk q input) 0 11 (all-of (length input) (λ j. ltb (getD input j 0) q) (λ j l. lt→ltb (getD input j 0) q (h .symbol j l)))
 
 -- a table of symbols as an input
 table-input : (q n : ℕ) (f : ℕ → ℕ) {exact : Bool} → T exact → ((j : ℕ) → f j < q) → AcceptedInput q (eqb (length (table n f)) n) exact (table n f)

@@ -1,4 +1,5 @@
 pub mod Wrote
 pub mod Coding
+pub mod Remainder
 pub mod Trips
 pub mod Packed

@@ -18,11 +18,10 @@ use Rattle.spec_word.proofs.Division as D
 
 -- a code word is one by its places below n
 pub isCode-cong : (F : FieldOps) → FieldLaws F → (n d : ℕ) (g w v : ℕ → ℕ) → ((j : ℕ) → j < n → w j ≡ v j) → isCode F n d g w ≡ isCode F n d g v
-unfolding isCode
 isCode-cong F laws n d g w v h =
     same-test (isCode F n d g w) (isCode F n d g v)
-    (λ t. D.divided-test F d g laws n v (λ i l. sym (D.remainder-cong F d g laws n w v h i) ∙ D.divided-of F d g laws n w t i l))
-    (λ t. D.divided-test F d g laws n w (λ i l. D.remainder-cong F d g laws n w v h i ∙ D.divided-of F d g laws n v t i l))
+    (λ t. D.divided-code F d g laws n v (λ i l. sym (D.remainder-cong F d g laws n w v h i) ∙ D.code-divided F d g laws n w t i l))
+    (λ t. D.divided-code F d g laws n w (λ i l. D.remainder-cong F d g laws n w v h i ∙ D.code-divided F d g laws n v t i l))
 
 -- n - 1 times u takes u away, modulo n
 multiple : (n u : ℕ) → 0 < n → u * pred n + u ≡ u * n
@@ -59,16 +58,13 @@ module _ (F : FieldOps) (laws : FieldLaws F) (n d : ℕ) (g : ℕ → ℕ) (G : 
   -- ---- the code is linear and cyclic
 
   pub code-add : (w v : ℕ → ℕ) → T (isCode F n d g w) → T (isCode F n d g v) → T (isCode F n d g (λ j. w j ⊕ v j))
-  unfolding isCode
-  code-add w v hw hv = D.divided-test F d g laws n _ (D.divided-add F d g laws n w v (D.divided-of F d g laws n w hw) (D.divided-of F d g laws n v hv))
+  code-add w v hw hv = D.divided-code F d g laws n _ (D.divided-add F d g laws n w v (D.code-divided F d g laws n w hw) (D.code-divided F d g laws n v hv))
 
   pub code-scale : (c : ℕ) (w : ℕ → ℕ) → T (isCode F n d g w) → T (isCode F n d g (λ j. c ⊗ w j))
-  unfolding isCode
-  code-scale c w h = D.divided-test F d g laws n _ (D.divided-scale F d g laws c n w (D.divided-of F d g laws n w h))
+  code-scale c w h = D.divided-code F d g laws n _ (D.divided-scale F d g laws c n w (D.code-divided F d g laws n w h))
 
   pub code-turn : (t : ℕ) {w : ℕ → ℕ} → Word F n w → T (isCode F n d g w) → T (isCode F n d g (λ j. w (j + t)))
-  unfolding isCode
-  code-turn t {w} w-word h = D.divided-test F d g laws n _ (turn-on t w-word (D.divided-of F d g laws n w h))
+  code-turn t {w} w-word h = D.divided-code F d g laws n _ (turn-on t w-word (D.code-divided F d g laws n w h))
 
   -- ---- a word moved: turned by t, multiplied by c, and with v added
 
@@ -90,11 +86,10 @@ module _ (F : FieldOps) (laws : FieldLaws F) (n d : ℕ) (g : ℕ → ℕ) (G : 
           (D.divided-add F d g laws n (λ j. w′ (j + t)) (λ j. v (j + t)) (turn-on t w′-word h) (turn-on t v-word v-code)))
 
       pub isCode-shifted : isCode F n d g w′ ≡ isCode F n d g w
-      unfolding isCode
       isCode-shifted =
           same-test (isCode F n d g w′) (isCode F n d g w)
-          (λ h. D.divided-test F d g laws n w (code-shifted-back (D.divided-of F d g laws n w′ h)))
-          (λ h. D.divided-test F d g laws n w′ (code-shifted (D.divided-of F d g laws n w h)))
+          (λ h. D.divided-code F d g laws n w (code-shifted-back (D.code-divided F d g laws n w′ h)))
+          (λ h. D.divided-code F d g laws n w′ (code-shifted (D.code-divided F d g laws n w h)))
 
   -- ---- words that g annihilates
 

@@ -1,5 +1,5 @@
--- Division by g, as the definitions' lists say it: w = Q·g + R with R of degree below d in just one way, and words have equal remainders exactly
--- where g divides their difference.
+-- Division by g, as the definitions' lists say it: w = Q·g + R with R of degree below d in just one way; words have equal remainders exactly where
+-- g divides their difference, and the remainder zero exactly where they are code words.
 -- Assumes nothing.
 use mathlib.Core.Path.{_≡_, sym, ap, _∙_, subst}
 use mathlib.Core.List.{List}
@@ -7,7 +7,8 @@ use Prim.Native.Nat.{ℕ, zero, suc, _+_, _≤_, _<_}
 use lib.Dec.{T}
 use lib.ListN.{length}
 use lib.Seq.{ext-getD}
-use Rattle.spec_range.proofs.Table.{table-length}
+use Rattle.spec_range.specs.Table.{table}
+use Rattle.spec_range.proofs.Table.{table-length, table-at}
 use Rattle.spec_field.specs.Field.{FieldOps, FieldLaws}
 use Rattle.spec_word.specs.Division.{coefficients, reduce, remainder, quotient}
 use Rattle.spec_word.specs.CyclicCode.{Generator, isCode}
@@ -52,22 +53,49 @@ module _ (F : FieldOps) (laws : FieldLaws F) (n d : ℕ) (g : ℕ → ℕ) (G : 
 
   -- ---- equal remainders
 
-  length-remainder : (k : ℕ) (w : ℕ → ℕ) → length (remainder F d g k w) ≡ d
+  pub length-remainder : (k : ℕ) (w : ℕ → ℕ) → length (remainder F d g k w) ≡ d
   unfolding remainder
   length-remainder zero w = table-length d (λ i. 0)
   length-remainder (suc k) w = table-length d (reduce F d g (coefficients (remainder F d g k (λ j. w (suc j)))) (w 0))
 
+  -- a remainder is the list of its d symbols, and known by them
+  pub remainder-listed : (w : ℕ → ℕ) → table d (coefficients (remainder F d g n w)) ≡ remainder F d g n w
+  remainder-listed w =
+      ext-getD 0 (table d (coefficients (remainder F d g n w))) (remainder F d g n w) (table-length d _ ∙ sym (length-remainder n w)) (λ i l.
+      table-at d (coefficients (remainder F d g n w)) (subst (λ (x : ℕ). i < x) (table-length d _) l))
+
+  remainder-is : (w : ℕ → ℕ) {R : List ℕ} → length R ≡ d → ((i : ℕ) → i < d → D.remainderAt F d g n w i ≡ coefficients R i) → remainder F d g n w ≡ R
+  remainder-is w {R} e same =
+      ext-getD 0 (remainder F d g n w) R (length-remainder n w ∙ sym e) (λ i l.
+      let h : i < d = subst (λ (x : ℕ). i < x) (length-remainder n w) l in D.remainder-at F d g laws n w i h ∙ same i h)
+
+  same-remainder : (w v : ℕ → ℕ) → ((i : ℕ) → i < d → D.remainderAt F d g n w i ≡ D.remainderAt F d g n v i) → remainder F d g n w ≡ remainder F d g n v
+  same-remainder w v same = remainder-is w (length-remainder n v) (λ i l. same i l ∙ sym (D.remainder-at F d g laws n v i l))
+
   pub equal-remainders : (w v : ℕ → ℕ) → T (isCode F n d g (λ j. w j ⊕ v j)) → remainder F d g n w ≡ remainder F d g n v
-  unfolding isCode
-  equal-remainders w v t =
-      ext-getD 0 (remainder F d g n w) (remainder F d g n v) (length-remainder n w ∙ sym (length-remainder n v)) (λ i l.
-      let h : i < d = subst (λ (x : ℕ). i < x) (length-remainder n w) l in
-      D.remainder-at F d g laws n w i h
-      ∙ D.same-remainder F d g laws n w v (D.divided-of F d g laws n (λ j. w j ⊕ v j) t) i h
-      ∙ sym (D.remainder-at F d g laws n v i h))
+  equal-remainders w v t = same-remainder w v (D.same-remainder F d g laws n w v (D.code-divided F d g laws n (λ j. w j ⊕ v j) t))
 
   pub difference-of-equal : (w v : ℕ → ℕ) → remainder F d g n w ≡ remainder F d g n v → T (isCode F n d g (λ j. w j ⊕ v j))
-  unfolding isCode
   difference-of-equal w v e =
-      D.divided-test F d g laws n (λ j. w j ⊕ v j) (D.divided-difference F d g laws n w v (λ i l.
+      D.divided-code F d g laws n (λ j. w j ⊕ v j) (D.divided-difference F d g laws n w v (λ i l.
       sym (D.remainder-at F d g laws n w i l) ∙ ap (λ (R : List ℕ). coefficients R i) e ∙ D.remainder-at F d g laws n v i l))
+
+  -- with a code word added it stays
+  pub remainder-added : (w v : ℕ → ℕ) → T (isCode F n d g v) → remainder F d g n (λ j. w j ⊕ v j) ≡ remainder F d g n w
+  remainder-added w v t =
+      same-remainder (λ j. w j ⊕ v j) w (λ i l.
+      D.remainder-add F d g laws n w v i ∙ ap (D.remainderAt F d g n w i ⊕_) (D.code-divided F d g laws n v t i l) ∙ laws .add-zero _)
+
+  -- a word's places below n are all that counts
+  pub remainder-same : (w v : ℕ → ℕ) → ((j : ℕ) → j < n → w j ≡ v j) → remainder F d g n w ≡ remainder F d g n v
+  remainder-same w v h = same-remainder w v (λ i _. D.remainder-cong F d g laws n w v h i)
+
+  -- ---- the remainder zero
+
+  pub code-remainder : (w : ℕ → ℕ) → T (isCode F n d g w) → remainder F d g n w ≡ table d (λ i. 0)
+  code-remainder w t = remainder-is w (table-length d (λ i. 0)) (λ i l. D.code-divided F d g laws n w t i l ∙ sym (table-at d (λ i. 0) l))
+
+  pub code-of-zero : (w : ℕ → ℕ) → remainder F d g n w ≡ table d (λ i. 0) → T (isCode F n d g w)
+  code-of-zero w e =
+      D.divided-code F d g laws n w (λ i l.
+      sym (D.remainder-at F d g laws n w i l) ∙ ap (λ (R : List ℕ). coefficients R i) e ∙ table-at d (λ i. 0) l)

@@ -1,4 +1,4 @@
--- SCOPE 4.4: Division of a polynomial by a monic g of degree d, d at least 1, by Horner's rule from the highest coefficient.
+-- SCOPE 4.32: Division of a polynomial by a monic g of degree d, d at least 1, by Horner's rule from the highest coefficient.
 -- Assumes nothing.
 use Prim.Native.Nat.{ℕ, zero, suc, pred}
 use mathlib.Core.Bool.{Bool}
@@ -18,6 +18,10 @@ before a R (suc i) = R i
 abbrev pub coefficients : List ℕ → ℕ → ℕ
 coefficients l i = getD l i 0
 
+-- SCOPE 4.4: whether all d symbols of a remainder are zero
+unfoldable pub allZero : ℕ → List ℕ → Bool
+allZero d R = all d (λ i. eqb (coefficients R i) 0)
+
 module _ (F : FieldOps) (d : ℕ) (g : ℕ → ℕ) where
   open FieldOps F using (add as _⊕_, mul as _⊗_)
 
@@ -27,7 +31,7 @@ module _ (F : FieldOps) (d : ℕ) (g : ℕ → ℕ) where
   unfoldable pub reduce : (ℕ → ℕ) → ℕ → ℕ → ℕ
   reduce R a i = before a R i ⊕ R (pred d) ⊗ g i
 
-  -- SCOPE 4.4: the remainder of w 0 + w 1·x + .. + w (k - 1)·x^(k - 1): d symbols from x^0
+  -- SCOPE 4.32: the remainder of w 0 + w 1·x + .. + w (k - 1)·x^(k - 1): d symbols from x^0
   unfoldable pub remainder : ℕ → (ℕ → ℕ) → List ℕ
   remainder zero w = table d (λ i. 0)
   remainder (suc k) w =
@@ -39,6 +43,6 @@ module _ (F : FieldOps) (d : ℕ) (g : ℕ → ℕ) where
   quotient zero w = []
   quotient (suc k) w = coefficients (remainder k (λ j. w (suc j))) (pred d) ∷ quotient k (λ j. w (suc j))
 
-  -- SCOPE 4.4: g divides the polynomial of k coefficients: the remainder is zero
+  -- SCOPE 3.7: g divides the polynomial of k coefficients: the remainder is zero
   unfoldable pub divides : ℕ → (ℕ → ℕ) → Bool
-  divides k w = let R = remainder k w in all d (λ i. eqb (coefficients R i) 0)
+  divides k w = let R = remainder k w in allZero d R

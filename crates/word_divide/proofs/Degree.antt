@@ -3,13 +3,10 @@
 use mathlib.Core.Path.{_≡_, refl, ap, ap₂, _∙_}
 use mathlib.Core.List.{List, _∷_}
 use Prim.Native.Nat.{ℕ, zero, suc, pred, _<_}
-use lib.Dec.{eqb}
-use Rattle.spec_range.specs.Fold.{all}
 use Rattle.spec_range.specs.Table.{table}
 use Rattle.spec_range.proofs.Table.{table-same}
 use Rattle.spec_field.specs.Field.{FieldOps}
-use Rattle.spec_word.specs.Division.{before, coefficients, reduce, remainder, quotient, divides}
-use Rattle.spec_word.specs.CyclicCode.{isCode}
+use Rattle.spec_word.specs.Division.{before, coefficients, allZero, reduce, remainder, quotient, divides}
 
 module _ (F : FieldOps) (d : ℕ) {g g′ : ℕ → ℕ} (same : (i : ℕ) → i < d → g i ≡ g′ i) where
   pub remainder-by : (k : ℕ) (w : ℕ → ℕ) → remainder F d g k w ≡ remainder F d g′ k w
@@ -28,8 +25,4 @@ module _ (F : FieldOps) (d : ℕ) {g g′ : ℕ → ℕ} (same : (i : ℕ) → i
 
   pub divides-by : (k : ℕ) (w : ℕ → ℕ) → divides F d g k w ≡ divides F d g′ k w
   unfolding divides
-  divides-by k w = ap (λ (R : List ℕ). all d (λ i. eqb (coefficients R i) 0)) (remainder-by k w)
-
-  pub code-by : (n : ℕ) (w : ℕ → ℕ) → isCode F n d g w ≡ isCode F n d g′ w
-  unfolding isCode
-  code-by n w = divides-by n w
+  divides-by k w = ap (allZero d) (remainder-by k w)

@@ -24,15 +24,15 @@ use Rattle.spec_field.specs.Symbols.{gf}
 use Rattle.spec_field.specs.Symbols as symbols
 use Rattle.spec_field.proofs.Laws.{zero-below, zero-add}
 use Rattle.spec_field.proofs.Gf.{gf-laws}
-use Rattle.spec_word.specs.Division.{before, reduce, divides}
+use Rattle.spec_word.specs.Division.{before, allZero, reduce, remainder, divides}
 use Rattle.spec_word.specs.CyclicCode.{unity}
 use Rattle.spec_word.proofs.Division.{remainderAt, remainder-at, remainder-cong}
 use Rattle.spec_word.proofs.Quotient.{prefix-below, quotientAt, quotient-at, quotient-cong, times, times-extend, division, quotient-above}
 use Rattle.word_array.specs.Stored.{place, Sizes, Stored}
 use Rattle.word_array.proofs.Filled.{read-padded}
-use Rattle.word_table.specs.Multiples.{entry, wordOf, Remains}
+use Rattle.word_table.specs.Multiples.{entry, wordOf}
 use Rattle.word_table.proofs.Rows.{rows-apart}
-use Rattle.word_divide.specs.Window.{Dividend, AddedAt, DividedBy}
+use Rattle.word_divide.specs.Window.{Dividend, AddedAt, Remains, DividedBy}
 
 -- ---- a row added from place i on
 
@@ -236,8 +236,9 @@ module _ {p size k : ℕ} {w : ℕ → ℕ} {v : List ℕ} (e : v ≡ padded siz
         long = h .long;
       }
 
-pub remains-test : {p k d : ℕ} {g w : ℕ → ℕ} {r : List ℕ} → Remains p k d g w r → all d (λ j. eqb (place r j) 0) ≡ divides (gf p) d g k w
-unfolding divides
+-- the test that is made of it is the definition's of the remainder
+pub remains-test : {p k d : ℕ} {g w : ℕ → ℕ} {r : List ℕ} → Remains p k d g w r → all d (λ j. eqb (place r j) 0) ≡ allZero d (remainder (gf p) d g k w)
+unfolding allZero
 remains-test {d = d} h = fold-cong _&&_ true d (λ j l. ap (λ (x : ℕ). eqb x 0) (h .places j l))
 
 -- ---- x^n - 1
@@ -285,4 +286,5 @@ unity-padded size n pos l =
 
 pub unity-test : (n : ℕ) {p d : ℕ} {g : ℕ → ℕ} {r : List ℕ} → Remains p (n + 1) d g (unity n) r
     → all d (λ j. eqb (place r j) 0) ≡ divides (gf p) d g (suc n) (unity n)
-unity-test n {p} {d} {g} h = remains-test h ∙ ap (λ (k : ℕ). divides (gf p) d g k (unity n)) (add-one n)
+unfolding divides
+unity-test n {p} {d} {g} h = remains-test h ∙ ap (λ (k : ℕ). allZero d (remainder (gf p) d g k (unity n))) (add-one n)

@@ -6,9 +6,9 @@ use Prim.Native.Nat.{ℕ, _+_, _-_, _≤_, _<_}
 use lib.Bits.{bitXor}
 use lib.ListN.{length}
 use Rattle.spec_field.specs.Symbols.{gf}
-use Rattle.spec_word.specs.Division.{coefficients, quotient}
+use Rattle.spec_word.specs.Division.{coefficients, remainder, quotient}
 use Rattle.word_array.specs.Stored.{place, Sizes, Stored}
-use Rattle.word_table.specs.Multiples.{Multiples, Remains}
+use Rattle.word_table.specs.Multiples.{Multiples}
 
 -- v has k symbols to divide, t the multiples of a word whose first d places are those of the divisor, which has degree d
 pub record Dividend (stride span p n d k : ℕ) (t v : List ℕ) : Type 0 where
@@ -28,6 +28,10 @@ pub record AddedAt (t : List ℕ) (from i count : ℕ) (v₀ v : List ℕ) : Typ
   pub low : (k : ℕ) → k < i → place v k ≡ place v₀ k
   pub added : (j : ℕ) → j < count → place v (i + j) ≡ bitXor (place v₀ (i + j)) (place t (from + j))
   pub high : (k : ℕ) → i + count ≤ k → place v k ≡ place v₀ k
+
+-- r starts with the remainder of the k coefficients of w by g, of degree d
+pub record Remains (p k d : ℕ) (g w : ℕ → ℕ) (r : List ℕ) : Type 0 where
+  pub places : (j : ℕ) → j < d → place r j ≡ coefficients (remainder (gf p) d g k w) j
 
 -- q, of `span` places, starts with the quotient of the k coefficients of w by g, of degree d, and r, of `stride`, with the remainder
 pub record DividedBy (stride span p k d : ℕ) (g w : ℕ → ℕ) (q r : List ℕ) : Type 0 where

@@ -60,7 +60,7 @@ fn divide_in(p: u8, n: usize, d: usize, k: usize, t: &[u8], v: &mut [u8; STRIDE]
     quotient
 }
 
-// The division of the n coefficients of w by the table's word g, of degree d.
+// The division of the n coefficients of w by the table's word g, of degree d: the message of a code word, and the remainder that tells a code word.
 pub fn divide(p: u8, n: usize, d: usize, t: &[u8], w: Word) -> Divided
     requires { ⌜ Sizes p n × (1 ≤ d) × (d < n) × Stored p n w × Multiples 128 p n (now t) ⌝ }
     ensures { λ r. ⌜ DividedBy 128 64 p n d (wordOf 128 n (now (t .entry))) (place w) (r .quotient) (r .remainder) ⌝ }
@@ -71,16 +71,6 @@ pub fn divide(p: u8, n: usize, d: usize, t: &[u8], w: Word) -> Divided
         quotient,
         remainder: v,
     }
-}
-
-// Whether the table's word g, of degree d, divides w.
-pub fn divides(p: u8, n: usize, d: usize, t: &[u8], w: Word) -> bool
-    requires { ⌜ Sizes p n × (1 ≤ d) × (d < n) × Stored p n w × Multiples 128 p n (now t) ⌝ }
-    ensures { λ r. ⌜ r ≡ divides (gf p) d (wordOf 128 n (now (t .entry))) n (place w) ⌝ }
-{
-    let parts = divide(p, n, d, t, w);
-    let rest = parts.remainder;
-    word_array::is_zero(d, &rest)
 }
 
 // Whether the table's word g, of degree d, divides x^n - 1.

@@ -7,7 +7,6 @@ use lib.ListN.{length}
 use Rattle.spec_field.specs.Symbols.{gf}
 use Rattle.spec_field.specs.Symbols as symbols
 use Rattle.spec_word.specs.Word.{at, product}
-use Rattle.spec_word.specs.Division.{coefficients, remainder}
 use Rattle.word_array.specs.Stored.{place, Stored}
 
 -- d holds a word w of n symbols twice over; all its places are symbols
@@ -55,7 +54,3 @@ pub record Tabled (stride p n : ℕ) (w t₀ t : List ℕ) : Type 0 where
 pub record Multiplied (span p n : ℕ) (b f : ℕ → ℕ) (r : List ℕ) : Type 0 where
   pub symbols : Stored p span r
   pub places : (j : ℕ) → j < n → place r j ≡ product (gf p) n b f j
-
--- r starts with the remainder of the n coefficients of w by g, of degree d
-pub record Remains (p n d : ℕ) (g w : ℕ → ℕ) (r : List ℕ) : Type 0 where
-  pub places : (j : ℕ) → j < d → place r j ≡ coefficients (remainder (gf p) d g n w) j

@@ -5,7 +5,7 @@ use native.Mathlib.Omega.{arith}
 use lib.ListN.{length}
 use Rattle.spec_operations.proofs.Wrote.{wrote-refused, wrote-made}
 use Rattle.book.proofs.Described.{params-sizes, degree-high}
-use Rattle.coder.proofs.Opening.{code-number, message-taken}
+use Rattle.coder.proofs.Opening.{code-number, taken}
 use Rattle.coder.proofs.Working.{room-within, rows, word-long, word-coded}
 use borrow.Author.Needs.{needs}
 use Rattle.coder.proofs.code_message.Statement.{statement}
@@ -27,7 +27,7 @@ product-requires : tie.Need-product-requires
 product-requires c κs =
     let s = c .before in
     let b = s .before .before .before .before .before .before .pre .open-book in
-    let i = message-taken b _ _ (s .before .order .ensures) (s .refusal .ensures) (c .if1 .left) in
+    let i = taken _ _ (s .before .order .ensures) (s .refusal .ensures) (c .if1 .left) in
     let below = degree-high _ _ (b .describes) in
     rows b i (omega arith) (omega (arith, i .size-is))
 
@@ -41,7 +41,7 @@ store-requires c κs =
     let start = s .before .before .before .before .before .before in
     let a = start .args in
     let b = start .pre .open-book in
-    let i = message-taken b (a .message .now) (length (a .word .now)) (s .before .order .ensures) (s .refusal .ensures) (r .before .if1 .left) in
+    let i = taken (a .message .now) (length (a .word .now)) (s .before .order .ensures) (s .refusal .ensures) (r .before .if1 .left) in
     let below = degree-high _ _ (b .describes) in
     room-within b i (omega arith) (r .product .result) (word-long b i (omega arith) (r .product .ensures))
 
@@ -54,7 +54,7 @@ returns-2 c =
     let s = r .before .before in
     let z = r .before .if1 .left in
     λ bytes b.
-    let i = message-taken b _ _ (s .before .order .ensures) (s .refusal .ensures) z in
+    let i = taken _ _ (s .before .order .ensures) (s .refusal .ensures) z in
     let below = degree-high _ _ (b .describes) in
     wrote-made (sym (code-number b _ _ (s .before .order .ensures) (s .refusal .ensures)) ∙ z)
     (word-coded b i (omega arith) refl (r .product .ensures) (c .before .before .store .ensures))

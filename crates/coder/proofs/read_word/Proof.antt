@@ -7,7 +7,7 @@ use borrow.Author.Tests.{not-true, not-false}
 use Rattle.spec_operations.proofs.Wrote.{wrote-refused, wrote-made}
 use Rattle.spec_operations.proofs.Coding.{word-refused, no-code-word, code-word}
 use Rattle.book.proofs.Described.{params-sizes, params-degree-sizes, degree-low, degree-high}
-use Rattle.coder.proofs.Opening.{read-number, word-taken}
+use Rattle.coder.proofs.Opening.{read-number, taken}
 use Rattle.coder.proofs.Working.{room-within, word-stored, word-tested, word-read}
 use borrow.Author.Needs.{needs}
 use Rattle.coder.proofs.read_word.Statement.{statement}
@@ -33,7 +33,7 @@ load-requires c κs =
     let start = s .before .before .before .before .before in
     let a = start .args in
     let b = start .pre .open-book in
-    let i = word-taken b (a .word .now) (length (a .message .now)) (s .before .order .ensures) (s .refusal .ensures) (c .if1 .left) in
+    let i = taken (a .word .now) (length (a .message .now)) (s .before .order .ensures) (s .refusal .ensures) (c .if1 .left) in
     (params-sizes _ _ (b .describes) .n-high, omega (arith, i .size-is))
 
 divide-requires : tie.Need-divide-requires
@@ -43,7 +43,7 @@ divide-requires c κs =
     let a = start .args in
     let b = start .pre .open-book in
     let d = b .describes in
-    let i = word-taken b (a .word .now) (length (a .message .now)) (s .before .order .ensures) (s .refusal .ensures) (c .before .if1 .left) in
+    let i = taken (a .word .now) (length (a .message .now)) (s .before .order .ensures) (s .refusal .ensures) (c .before .if1 .left) in
     (params-sizes _ _ d, degree-low _ _ d, degree-high _ _ d, word-stored b _ (c .load .ensures) i, b .table-is .multiples)
 
 slice-aggregate-is-zero : tie.Need-slice-aggregate-is-zero
@@ -76,7 +76,7 @@ store-requires c κs =
     let start = s .before .before .before .before .before in
     let a = start .args in
     let b = start .pre .open-book in
-    let i = word-taken b (a .word .now) (length (a .message .now)) (s .before .order .ensures) (s .refusal .ensures) (r .before .before .if1 .left) in
+    let i = taken (a .word .now) (length (a .message .now)) (s .before .order .ensures) (s .refusal .ensures) (r .before .before .if1 .left) in
     room-within b i (omega arith) (r .divide .result .quotient) (r .divide .ensures .room)
 
 same-length : tie.Need-same-length
@@ -91,7 +91,7 @@ returns-3 c =
     let z = l .before .if1 .left in
     λ bytes b.
     let a = s .before .before .before .before .before .args in
-    let i = word-taken b (a .word .now) (length (a .message .now)) (s .before .order .ensures) (s .refusal .ensures) z in
+    let i = taken (a .word .now) (length (a .message .now)) (s .before .order .ensures) (s .refusal .ensures) z in
     let tested = word-tested b _ (l .load .ensures) (r .divide .ensures) (t .before .is-zero .ensures) refl in
     wrote-made
     (code-word _ _ _ (read-number b _ _ (s .before .order .ensures) (s .refusal .ensures)) z tested (not-false _ (t .if2 .left)))

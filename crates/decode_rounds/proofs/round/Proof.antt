@@ -9,9 +9,9 @@ use Rattle.spec_range.proofs.Loop.{padded-length}
 use Rattle.spec_book.specs.Layout.{width, fieldOf, bookOf}
 use Rattle.spec_decoding.specs.Matrix.{matrix}
 use Rattle.spec_decoding.proofs.Matrix.{matrix-length}
-use Rattle.book.proofs.Described.{params-sizes, params-stored, params-matrix, degree-low, degree-high}
+use Rattle.book.proofs.Described.{params-sizes, params-degree-sizes, params-stored, params-matrix, degree-low, degree-high}
 use Rattle.matrix.proofs.Whole.{whole-steps}
-use Rattle.decode_rounds.proofs.Stepping.{params-fillable, prepared-filling, round-stored, round-done}
+use Rattle.decode_rounds.proofs.Stepping.{params-fillable, prepared-filling, round-stored, round-empty, round-divided}
 use Rattle.decode_rounds.proofs.round.Statement.{statement}
 use Rattle.decode_rounds.proofs.round.Tie as tie
 
@@ -53,11 +53,11 @@ returns c bytes h =
     let add = c .before .before .before in
     let fill = add .before .before .before .before .before in
     let d = h .describes in
-    round-done bytes _ _ _ d (fill .before .before .before .before .before .pre .word) _ _ _ (fill .fill .ensures _ (params-fillable _ _ d) (h .terms-are))
-    (add .before .corrections .ensures) (add .add .ensures) (h .table-is) true _ refl (sym (c .before .is-zero .ensures) ∙ c .if1 .taken) refl
+    round-empty bytes _ _ _ d (fill .before .before .before .before .before .pre .word) _ _ _ (fill .fill .ensures _ (params-fillable _ _ d) (h .terms-are))
+    (add .before .corrections .ensures) (add .add .ensures) refl (sym (c .before .is-zero .ensures) ∙ c .if1 .taken)
 
-divides-requires : tie.Need-divides-requires
-divides-requires c κs =
+divide-requires : tie.Need-divide-requires
+divide-requires c κs =
     let add = c .before .before .before in
     let fill = add .before .before .before .before .before in
     let pre = fill .before .before .before .before .before .pre in
@@ -72,31 +72,41 @@ divides-requires c κs =
       h .table-is .multiples,
     )
 
+slice-aggregate-is-zero-2 : tie.Need-slice-aggregate-is-zero-2
+slice-aggregate-is-zero-2 c = search needs
+
+is-zero-requires-2 : tie.Need-is-zero-requires-2
+is-zero-requires-2 c κs =
+    let degree = params-degree-sizes _ _ (c .before .before .before .before .before .before .before .before .before .before .before .before .before .before .before .before .pre .prepared .describes) .n-high in
+    (omega (arith, degree), omega (arith, degree, c .before .before .divide .ensures .long))
+
 same-length-2 : tie.Need-same-length-2
 same-length-2 c = search needs
 
 returns-2 : tie.Need-returns-2
 returns-2 c bytes h =
-    let tested = c .before .before in
+    let divided = c .before .before .before .before in
+    let tested = divided .before in
     let add = tested .before .before .before in
     let fill = add .before .before .before .before .before in
     let d = h .describes in
-    round-done bytes _ _ _ d (fill .before .before .before .before .before .pre .word) _ _ _ (fill .fill .ensures _ (params-fillable _ _ d) (h .terms-are))
-    (add .before .corrections .ensures) (add .add .ensures) (h .table-is) false true refl (sym (tested .before .is-zero .ensures) ∙ tested .if1 .left)
-    (sym (c .before .divides .ensures) ∙ c .if2 .taken)
+    round-divided bytes _ _ _ d (fill .before .before .before .before .before .pre .word) _ _ _ (fill .fill .ensures _ (params-fillable _ _ d) (h .terms-are))
+    (add .before .corrections .ensures) (add .add .ensures) (h .table-is) (divided .divide .ensures .remains) true refl
+    (sym (tested .before .is-zero .ensures) ∙ tested .if1 .left) (sym (c .before .is-zero2 .ensures) ∙ c .if2 .taken)
 
 same-length-3 : tie.Need-same-length-3
 same-length-3 c = search needs
 
 returns-3 : tie.Need-returns-3
 returns-3 c bytes h =
-    let tested = c .before .before in
+    let divided = c .before .before .before .before in
+    let tested = divided .before in
     let add = tested .before .before .before in
     let fill = add .before .before .before .before .before in
     let d = h .describes in
-    round-done bytes _ _ _ d (fill .before .before .before .before .before .pre .word) _ _ _ (fill .fill .ensures _ (params-fillable _ _ d) (h .terms-are))
-    (add .before .corrections .ensures) (add .add .ensures) (h .table-is) false false refl (sym (tested .before .is-zero .ensures) ∙ tested .if1 .left)
-    (sym (c .before .divides .ensures) ∙ c .if2 .left)
+    round-divided bytes _ _ _ d (fill .before .before .before .before .before .pre .word) _ _ _ (fill .fill .ensures _ (params-fillable _ _ d) (h .terms-are))
+    (add .before .corrections .ensures) (add .add .ensures) (h .table-is) (divided .divide .ensures .remains) false refl
+    (sym (tested .before .is-zero .ensures) ∙ tested .if1 .left) (sym (c .before .is-zero2 .ensures) ∙ c .if2 .left)
 
 pub round-spec : {M : Type 1} → statement M
 round-spec =
@@ -109,7 +119,9 @@ round-spec =
     is-zero-requires
     same-length
     returns
-    divides-requires
+    divide-requires
+    slice-aggregate-is-zero-2
+    is-zero-requires-2
     same-length-2
     returns-2
     same-length-3
