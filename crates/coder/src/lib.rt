@@ -11,8 +11,8 @@ use book::Opened;
 use book::Params;
 use refusals::Done;
 
-pub mod trips;
 pub mod sorting;
+pub mod trips;
 
 // Code a message of k symbols into a word of n.
 pub fn code(book: &[u8], message: &[u8], word: &mut [u8]) -> Done

@@ -8,7 +8,13 @@ use crate::trips::Both;
 
 // Both calls answer and write what the definition says, whatever is given; and of two words the remainders are equal exactly if the words differ by a
 // code word.
-pub fn remainder_twice(book: &[u8], one: &[u8], two: &[u8], first: &mut [u8], second: &mut [u8]) -> Both
+pub fn remainder_twice(
+    book: &[u8],
+    one: &[u8],
+    two: &[u8],
+    first: &mut [u8],
+    second: &mut [u8],
+) -> Both
     ensures { λ r. ⌜ Wrote (remainderRefusal (now (book .entry)) (now (one .entry)) (length (now (first .entry))))
         (remainderOf (now (book .entry)) (now (one .entry))) (now (first .entry)) (said (r .first)) (now (first .exit)) ⌝ }
     ensures { λ r. ⌜ Wrote (remainderRefusal (now (book .entry)) (now (two .entry)) (length (now (second .entry))))

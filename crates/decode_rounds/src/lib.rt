@@ -56,8 +56,7 @@ fn round(c: Params, t: &[u8], terms: &[u16], w: Word, m: &mut [u16]) -> Rounded
             word: next,
         };
     }
-    let parts = word_divide::divide(c.p, n, c.degree, t, next);
-    let rest = parts.remainder;
+    let rest = word_divide::remainder(c.p, n, c.degree, t, next);
     if word_array::is_zero(c.degree, &rest) {
         return Rounded {
             step: Step::Reached,
@@ -118,8 +117,7 @@ pub fn run(book: &[u8], c: Params, t: &[u8], terms: &mut [u16], r: Word, m: &mut
     ensures { λ x. ⌜ Ended (now (book .entry)) (decode (fieldOf (now (book .entry))) (bookOf width (now (book .entry))) (listed (now (book .entry)) r)) x
         (now (m .exit)) × TermsRoom (now (book .entry)) c (now (terms .exit)) ⌝ }
 {
-    let parts = word_divide::divide(c.p, c.n, c.degree, t, r);
-    let rest = parts.remainder;
+    let rest = word_divide::remainder(c.p, c.n, c.degree, t, r);
     if word_array::is_zero(c.degree, &rest) {
         matrix::clear(m);
         return End {

@@ -9,7 +9,7 @@ ghost use Rattle.spec_word.specs.Division.{divides};
 ghost use Rattle.spec_word.specs.CyclicCode.{unity};
 ghost use Rattle.word_array.specs.Stored.{place, Sizes, Stored};
 ghost use Rattle.word_table.specs.Multiples.{wordOf, Multiples};
-ghost use Rattle.word_divide.specs.Window.{Dividend, AddedAt, DividedBy};
+ghost use Rattle.word_divide.specs.Window.{Dividend, AddedAt, Remains, DividedBy};
 use sizes::SPAN;
 use sizes::STRIDE;
 use sizes::Word;
@@ -71,6 +71,15 @@ pub fn divide(p: u8, n: usize, d: usize, t: &[u8], w: Word) -> Divided
         quotient,
         remainder: v,
     }
+}
+
+// The remainder alone, which is all that the test for a code word asks.
+pub fn remainder(p: u8, n: usize, d: usize, t: &[u8], w: Word) -> [u8; STRIDE]
+    requires { ⌜ Sizes p n × (1 ≤ d) × (d < n) × Stored p n w × Multiples 128 p n (now t) ⌝ }
+    ensures { λ r. ⌜ Remains p n d (wordOf 128 n (now (t .entry))) (place w) r × (length r ≡ 128) ⌝ }
+{
+    let parts = divide(p, n, d, t, w);
+    parts.remainder
 }
 
 // Whether the table's word g, of degree d, divides x^n - 1.

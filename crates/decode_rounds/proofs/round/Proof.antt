@@ -56,8 +56,8 @@ returns c bytes h =
     round-empty bytes _ _ _ d (fill .before .before .before .before .before .pre .word) _ _ _ (fill .fill .ensures _ (params-fillable _ _ d) (h .terms-are))
     (add .before .corrections .ensures) (add .add .ensures) refl (sym (c .before .is-zero .ensures) ∙ c .if1 .taken)
 
-divide-requires : tie.Need-divide-requires
-divide-requires c κs =
+remainder-requires : tie.Need-remainder-requires
+remainder-requires c κs =
     let add = c .before .before .before in
     let fill = add .before .before .before .before .before in
     let pre = fill .before .before .before .before .before .pre in
@@ -77,21 +77,21 @@ slice-aggregate-is-zero-2 c = search needs
 
 is-zero-requires-2 : tie.Need-is-zero-requires-2
 is-zero-requires-2 c κs =
-    let degree = params-degree-sizes _ _ (c .before .before .before .before .before .before .before .before .before .before .before .before .before .before .before .before .pre .prepared .describes) .n-high in
-    (omega (arith, degree), omega (arith, degree, c .before .before .divide .ensures .long))
+    let degree = params-degree-sizes _ _ (c .before .before .before .before .before .before .before .before .before .before .before .before .before .before .before .pre .prepared .describes) .n-high in
+    (omega (arith, degree), omega (arith, degree, c .before .remainder .ensures .1))
 
 same-length-2 : tie.Need-same-length-2
 same-length-2 c = search needs
 
 returns-2 : tie.Need-returns-2
 returns-2 c bytes h =
-    let divided = c .before .before .before .before in
+    let divided = c .before .before .before in
     let tested = divided .before in
     let add = tested .before .before .before in
     let fill = add .before .before .before .before .before in
     let d = h .describes in
     round-divided bytes _ _ _ d (fill .before .before .before .before .before .pre .word) _ _ _ (fill .fill .ensures _ (params-fillable _ _ d) (h .terms-are))
-    (add .before .corrections .ensures) (add .add .ensures) (h .table-is) (divided .divide .ensures .remains) true refl
+    (add .before .corrections .ensures) (add .add .ensures) (h .table-is) (divided .remainder .ensures .0) true refl
     (sym (tested .before .is-zero .ensures) ∙ tested .if1 .left) (sym (c .before .is-zero2 .ensures) ∙ c .if2 .taken)
 
 same-length-3 : tie.Need-same-length-3
@@ -99,13 +99,13 @@ same-length-3 c = search needs
 
 returns-3 : tie.Need-returns-3
 returns-3 c bytes h =
-    let divided = c .before .before .before .before in
+    let divided = c .before .before .before in
     let tested = divided .before in
     let add = tested .before .before .before in
     let fill = add .before .before .before .before .before in
     let d = h .describes in
     round-divided bytes _ _ _ d (fill .before .before .before .before .before .pre .word) _ _ _ (fill .fill .ensures _ (params-fillable _ _ d) (h .terms-are))
-    (add .before .corrections .ensures) (add .add .ensures) (h .table-is) (divided .divide .ensures .remains) false refl
+    (add .before .corrections .ensures) (add .add .ensures) (h .table-is) (divided .remainder .ensures .0) false refl
     (sym (tested .before .is-zero .ensures) ∙ tested .if1 .left) (sym (c .before .is-zero2 .ensures) ∙ c .if2 .left)
 
 pub round-spec : {M : Type 1} → statement M
@@ -119,7 +119,7 @@ round-spec =
     is-zero-requires
     same-length
     returns
-    divide-requires
+    remainder-requires
     slice-aggregate-is-zero-2
     is-zero-requires-2
     same-length-2

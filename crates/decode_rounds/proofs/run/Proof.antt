@@ -13,8 +13,8 @@ use Rattle.decode_rounds.proofs.Decoding.{decoded-clean, decoded-rounds
 use Rattle.decode_rounds.proofs.run.Statement.{statement}
 use Rattle.decode_rounds.proofs.run.Tie as tie
 
-divide-requires : tie.Need-divide-requires
-divide-requires c κs =
+remainder-requires : tie.Need-remainder-requires
+remainder-requires c κs =
     let h = c .before .before .before .before .pre in
     (params-sizes _ _ (h .0), degree-low _ _ (h .0), degree-high _ _ (h .0), h .3, h .1 .multiples)
 
@@ -23,9 +23,9 @@ slice-aggregate-is-zero c = search needs
 
 is-zero-requires : tie.Need-is-zero-requires
 is-zero-requires c κs =
-    let divided = c .before .before in
+    let divided = c .before in
     let degree = params-degree-sizes _ _ (divided .before .before .before .before .before .pre .0) .n-high in
-    (omega (arith, degree), omega (arith, degree, divided .divide .ensures .long))
+    (omega (arith, degree), omega (arith, degree, divided .remainder .ensures .1))
 
 clear-requires : tie.Need-clear-requires
 clear-requires c κs = search needs
@@ -36,23 +36,23 @@ same-length c = search needs
 returns : tie.Need-returns
 returns c =
     let tested = c .before .before .before .before in
-    let divided = tested .before .before .before .before in
+    let divided = tested .before .before .before in
     let start = divided .before .before .before .before .before in
     let h = start .pre in (
-      decoded-clean _ _ _ _ (h .0) (h .1) _ (divided .divide .ensures .remains) (sym (tested .before .is-zero .ensures) ∙ tested .if1 .taken) (start .args .m .now) (h .4)
+      decoded-clean _ _ _ _ (h .0) (h .1) _ (divided .remainder .ensures .0) (sym (tested .before .is-zero .ensures) ∙ tested .if1 .taken) (start .args .m .now) (h .4)
           (c .before .before .clear .ensures),
       h .2,
     )
 
 ready-requires : tie.Need-ready-requires
 ready-requires c κs =
-    let h = c .before .before .before .before .before .before .before .before .before .before .pre in
+    let h = c .before .before .before .before .before .before .before .before .before .pre in
     (listable (params-fillable _ _ (h .0)), h .2 .long, h .2 .kept)
 
 go-requires : tie.Need-go-requires
 go-requires c κs =
     let listed = c .before .before .before .before in
-    let start = listed .before .before .before .before .before .before .before .before .before .before .before in
+    let start = listed .before .before .before .before .before .before .before .before .before .before in
     let h = start .pre in
     record {
       bytes = start .args .book .now;
@@ -71,11 +71,11 @@ returns-2 : tie.Need-returns-2
 returns-2 c =
     let listed = c .before .before .before .before .before .before .before in
     let tested = listed .before .before in
-    let divided = tested .before .before .before .before in
+    let divided = tested .before .before .before in
     let start = divided .before .before .before .before .before in
     let h = start .pre in
     let terms = listed .ready .ensures in (
-      decoded-rounds _ _ _ (start .args .r) (h .0) (h .1) _ (divided .divide .ensures .remains) (sym (tested .before .is-zero .ensures) ∙ tested .if1 .left)
+      decoded-rounds _ _ _ (start .args .r) (h .0) (h .1) _ (divided .remainder .ensures .0) (sym (tested .before .is-zero .ensures) ∙ tested .if1 .left)
           (c .before .before .go .ensures _ (record { describes = h .0; table-is = h .1; terms-are = terms .0 })),
       record { long = omega (arith, h .2 .long, terms .1); kept = already (terms .0) },
     )
@@ -84,7 +84,7 @@ pub run-spec : {M : Type 1} → statement M
 run-spec =
     tie.close
     (tie.spec
-    divide-requires
+    remainder-requires
     slice-aggregate-is-zero
     is-zero-requires
     clear-requires
