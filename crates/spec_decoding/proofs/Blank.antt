@@ -7,12 +7,12 @@ use native.Mathlib.Nat.{zero-mod}
 use native.Mathlib.Omega.{arith}
 use lib.Dec.{T}
 use lib.ListN.{getD}
-use Rattle.spec_range.proofs.Table.{table-at, table-same}
+use Rattle.spec_range.proofs.Table.{table-same}
 use Rattle.spec_field.specs.Field.{FieldOps, FieldLaws}
 use Rattle.spec_field.proofs.Gf.{gf-laws}
 use Rattle.spec_field.proofs.Laws as L
 use Rattle.spec_word.specs.Word.{at, turn, scale, plus}
-use Rattle.spec_word.proofs.Place.{SymbolList, at-period, at-lt, at-table}
+use Rattle.spec_word.proofs.Place.{SymbolList, at-period, at-lt, at-table, at-plus}
 use Rattle.spec_book.specs.Book.{Book, isCodeWord}
 use Rattle.spec_book.specs.Layout.{symbolDigits, fieldOf, bookOf}
 use Rattle.spec_book.specs.Conditions.{refusal}
@@ -34,10 +34,6 @@ move-plain F laws n pos v w h =
   where
     back : (j : ℕ) → at n w (j + (n - 0 % n)) ≡ at n w j
     back j = ap (at n w) (omega (arith, zero-mod n)) ∙ at-period n w j
-
-plus-at : (F : FieldOps) (n : ℕ) (w v : List ℕ) {j : ℕ} → j < n → getD (plus F n w v) j 0 ≡ F .add (at n w j) (at n v j)
-unfolding plus
-plus-at F n w v l = table-at n (λ k. F .add (at n w k) (at n v k)) l
 
 module _ (width : ℕ) (wide : 63 ≤ width) (bytes : List ℕ) (e : refusal width bytes ≡ 0) where
   abbrev F : FieldOps
@@ -91,5 +87,5 @@ module _ (width : ℕ) (wide : 63 ≤ width) (bytes : List ℕ) (e : refusal wid
       place : (j : ℕ) → j < B .n → getD (y .answer) j 0 ≡ F .add (getD (x .answer) j 0) (at (B .n) v j)
       place j l =
           ap (λ (w : List ℕ). getD w j 0) added
-          ∙ plus-at F (B .n) (x .answer) v l
+          ∙ sym (at-lt (B .n) (plus F (B .n) (x .answer) v) l) ∙ at-plus F (B .n) (x .answer) v l
           ∙ ap (λ (a : ℕ). F .add a (at (B .n) v j)) (at-lt (B .n) (x .answer) l)

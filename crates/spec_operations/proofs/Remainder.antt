@@ -11,7 +11,7 @@ use Rattle.spec_field.specs.Answer.{Answer, orElse}
 use Rattle.spec_field.proofs.Refusals.{found-first}
 use Rattle.spec_word.specs.Word.{IsWord, at, plus}
 use Rattle.spec_word.specs.CyclicCode.{Generator, isCode}
-use Rattle.spec_word.proofs.Place.{at-table}
+use Rattle.spec_word.proofs.Place.{at-plus}
 use Rattle.spec_word.proofs.CyclicCode.{isCode-cong}
 use Rattle.spec_word.proofs.Unique.{equal-remainders, difference-of-equal, remainder-added, remainder-same, code-remainder, code-of-zero}
 use Rattle.spec_book.specs.Book.{Book}
@@ -48,10 +48,6 @@ module _ (bytes : List ℕ) where
   unfolding remainderRefusal remainderInputRefusal
   remainder-accepted ok word size = ap₂ orElse ok (input-accepted (word-input word (eq→eqb size)))
 
-  plus-at : (w v : List ℕ) (j : ℕ) → j < n → at n (plus F n w v) j ≡ F .add (at n w j) (at n v j)
-  unfolding plus
-  plus-at w v j l = at-table n (λ k. F .add (at n w k) (at n v k)) l
-
   -- ---- two calls
 
   module _ {w w′ out₀ out out₀′ out′ : List ℕ} {room room′ : ℕ} {a a′ : Answer}
@@ -68,7 +64,7 @@ module _ (bytes : List ℕ) where
           code = λ e. code-of-zero F laws n degree generator G (at n w) (sym writes ∙ e);
           added = λ v _ t e.
               writes′
-              ∙ remainder-same F laws n degree generator G (at n w′) (λ j. F .add (at n w j) (at n v j)) (λ j l. ap (λ (x : List ℕ). at n x j) e ∙ plus-at w v j l)
+              ∙ remainder-same F laws n degree generator G (at n w′) (λ j. F .add (at n w j) (at n v j)) (λ j l. ap (λ (x : List ℕ). at n x j) e ∙ at-plus F n w v l)
               ∙ remainder-added F laws n degree generator G (at n w) (at n v) t ∙ sym writes;
         }
       where
@@ -91,4 +87,4 @@ module _ (bytes : List ℕ) where
         writes′ = wrote-new z′ h′
 
         summed : differByCode bytes w w′ ≡ isCode F n degree generator (λ j. F .add (at n w j) (at n w′ j))
-        summed = isCode-cong F laws n degree generator (at n (plus F n w w′)) _ (plus-at w w′)
+        summed = isCode-cong F laws n degree generator (at n (plus F n w w′)) _ (λ j l. at-plus F n w w′ l)

@@ -10,7 +10,7 @@ use lib.ListN.{getD, length}
 use Rattle.spec_range.specs.Table.{table}
 use Rattle.spec_range.proofs.Table.{table-at, table-length}
 use Rattle.spec_field.specs.Field.{FieldOps}
-use Rattle.spec_word.specs.Word.{at}
+use Rattle.spec_word.specs.Word.{at, plus}
 use Rattle.spec_word.proofs.Sums.{Symbols}
 
 -- w is a word of n symbols, read as a function of its places
@@ -71,6 +71,10 @@ at-lt n w l = ap (λ (x : ℕ). getD w x 0) (mod-eq-of-lt l)
 
 pub at-table : (n : ℕ) (f : ℕ → ℕ) {j : ℕ} → j < n → at n (table n f) j ≡ f j
 at-table n f l = at-lt n (table n f) l ∙ table-at n f l
+
+pub at-plus : (F : FieldOps) (n : ℕ) (w v : List ℕ) {j : ℕ} → j < n → at n (plus F n w v) j ≡ F .add (at n w j) (at n v j)
+unfolding plus
+at-plus F n w v l = at-table n (λ k. F .add (at n w k) (at n v k)) l
 
 pub list-word : {F : FieldOps} {n : ℕ} {w : List ℕ} → SymbolList F n w → Word F n (at n w)
 list-word {n = n} {w = w} h = record { symbol = h .symbols; period = at-period n w }
