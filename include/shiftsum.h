@@ -1,8 +1,8 @@
 /*
  * shiftsum: a proved coder for cyclic codes with an iterated shift-sum decoder.
  *
- * A symbol is a byte below q = 2^p. A word is n = 2^s - 1 symbols, place j the coefficient of x^j; a message is k = n - degree(g) symbols. s, p, the
- * generator g and the dual words come from a codebook, which every call is given:
+ * A symbol is a byte below q = 2^p. A word is n = 2^s - 1 symbols, place j the coefficient of x^j; a message is k = n - degree(g) symbols, and a
+ * remainder on division by g the other n - k. s, p, the generator g and the dual words come from a codebook, which every call is given:
  *
  *     offset          bytes   content
  *     0               1, 2    1; s from 2 to 6, and p, which divides s
@@ -49,7 +49,7 @@ extern "C" {
 #define SHIFTSUM_BOOK_MIN 134
 #define SHIFTSUM_BOOK_MAX 2118
 
-/* Symbols of a word: n. A message has 1 to n - 1. */
+/* Symbols of a word: n. A message has 1 to n - 1, and so has a remainder. */
 #define SHIFTSUM_WORD_MIN 3
 #define SHIFTSUM_WORD_MAX 63
 
@@ -60,18 +60,18 @@ extern "C" {
  * A result is four bytes in a number. The lowest is 0, or the number of the refusal, and then the other three are 0. The first number that applies
  * is the one returned:
  *
- *      1  codebook: its length                                              check, code, read, decode
- *      2  codebook: a kind byte                                             check, code, read, decode
- *      3  codebook: s or p                                                  check, code, read, decode
- *      4  codebook: a symbol of q or more, or a nonzero place from n on     check, code, read, decode
- *      5  codebook: the generator                                           check, code, read, decode
- *      6  codebook: I or D                                                  check, code, read, decode
- *      7  codebook: a dual word's place 0, product with g, or weight        check, code, read, decode
- *      8  codebook: two dual words are equal                                check, code, read, decode
- *      9  input: not k symbols (code), not n symbols (read, decode)                code, read, decode
- *     10  output: its length is not exact, n (code, decode) or k (read)            code, read, decode
- *     11  input: a symbol of q or more                                             code, read, decode
- *     12  input: not a code word                                                         read
+ *      1  codebook: its length                                                       check, code, read, remainder, decode
+ *      2  codebook: a kind byte                                                      check, code, read, remainder, decode
+ *      3  codebook: s or p                                                           check, code, read, remainder, decode
+ *      4  codebook: a symbol of q or more, or a nonzero place from n on              check, code, read, remainder, decode
+ *      5  codebook: the generator                                                    check, code, read, remainder, decode
+ *      6  codebook: I or D                                                           check, code, read, remainder, decode
+ *      7  codebook: a dual word's place 0, product with g, or weight                 check, code, read, remainder, decode
+ *      8  codebook: two dual words are equal                                         check, code, read, remainder, decode
+ *      9  input: not k symbols (code), not n symbols (read, remainder, decode)              code, read, remainder, decode
+ *     10  output: its length is not exact, n (code, decode), k (read), n - k (remainder)    code, read, remainder, decode
+ *     11  input: a symbol of q or more                                                      code, read, remainder, decode
+ *     12  input: not a code word                                                                  read
  *
  * (13, the inverse of zero, is of the field's operations and is not met here.)
  */
@@ -121,6 +121,15 @@ uint32_t shiftsum_code(const uint8_t *book, size_t book_len, const uint8_t *mess
  * Returns 0, or a refusal from 1 to 12. shiftsum_code gives the word back from the message.
  */
 uint32_t shiftsum_read(const uint8_t *book, size_t book_len, const uint8_t *word, size_t word_len, uint8_t *message, size_t message_len);
+
+/*
+ * Divides a word by g: writes its remainder. Two words have one remainder exactly if they differ by a code word, so a damaged word has that of its
+ * error pattern, whatever was sent, and received words can be sorted by pattern. It is zero for a code word and for no other word.
+ *   word       n symbols, a code word or not
+ *   remainder  n - k bytes, written, from x^0
+ * Returns 0, or a refusal from 1 to 11.
+ */
+uint32_t shiftsum_remainder(const uint8_t *book, size_t book_len, const uint8_t *word, size_t word_len, uint8_t *remainder, size_t remainder_len);
 
 /*
  * Decodes a received word.
