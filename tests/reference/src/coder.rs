@@ -1,4 +1,4 @@
-//! Code and Read (the scope, "Operations").
+//! Code, Read and Remainder (the scope, "Operations").
 
 use crate::codebook::{check, Codebook};
 use crate::refuse;
@@ -12,6 +12,11 @@ pub fn code(book: &[u8], message: &[u8], word: &mut [u8]) -> Result<(), u8> {
 /// Read: the refusals of the book, then those of the call.
 pub fn read(book: &[u8], word: &[u8], message: &mut [u8]) -> Result<(), u8> {
     check(book)?.read(word, message)
+}
+
+/// Remainder: the refusals of the book, then those of the call.
+pub fn remainder(book: &[u8], word: &[u8], remainder: &mut [u8]) -> Result<(), u8> {
+    check(book)?.remainder(word, remainder)
 }
 
 impl Codebook {
@@ -31,26 +36,34 @@ impl Codebook {
         refuse(9, word.len() != self.n())?;
         refuse(10, message.len() != self.k())?;
         self.field().admit(word)?;
-        let quotient = self.quotient(word).ok_or(12)?;
-        message.copy_from_slice(&quotient);
+        refuse(12, !self.is_code_word(word))?;
+        message.copy_from_slice(&self.division(word)?.quotient);
         Ok(())
     }
 
-    /// "A code word is a word that g divides": its quotient, or none.
-    fn quotient(&self, word: &[u8]) -> Option<Vec<u8>> {
-        let Division {
-            mut quotient,
-            remainder,
-        } = word::divide(self.field(), word, self.generator())?;
-        if word::weight(&remainder) != 0 {
-            return None;
-        }
-        quotient.truncate(self.k());
-        Some(quotient)
+    /// The remainder of any word on division by g, n - k symbols from x^0.
+    /// A word that is no code word is not refused.
+    pub fn remainder(&self, word: &[u8], remainder: &mut [u8]) -> Result<(), u8> {
+        refuse(9, word.len() != self.n())?;
+        refuse(10, remainder.len() != self.n() - self.k())?;
+        self.field().admit(word)?;
+        remainder.copy_from_slice(&self.division(word)?.remainder);
+        Ok(())
     }
 
-    /// Whether g divides the word.
+    /// A word of n symbols divided by g: k symbols of the quotient and n - k
+    /// of the remainder, those above being zero. Refusal 5 where g is zero,
+    /// which no accepted book has.
+    fn division(&self, word: &[u8]) -> Result<Division, u8> {
+        let mut division = word::divide(self.field(), word, self.generator()).ok_or(5)?;
+        division.quotient.truncate(self.k());
+        division.remainder.truncate(self.n() - self.k());
+        Ok(division)
+    }
+
+    /// "A word is a code word where its remainder on division by g is zero."
     pub fn is_code_word(&self, word: &[u8]) -> bool {
-        self.quotient(word).is_some()
+        self.division(word)
+            .is_ok_and(|division| word::weight(&division.remainder) == 0)
     }
 }

@@ -23,6 +23,11 @@ pub fn read(book: &[u8], word: &[u8], message: &mut [u8]) -> u32 {
     pack_done(coder::read(book, word, message))
 }
 
+/// Remainder, its result packed.
+pub fn remainder(book: &[u8], word: &[u8], remainder: &mut [u8]) -> u32 {
+    pack_done(coder::remainder(book, word, remainder))
+}
+
 /// Decode, its result packed; "the matrix is a local buffer behind that
 /// boundary", of the exact size.
 pub fn decode(book: &[u8], received: &[u8], answer: &mut [u8]) -> u32 {
@@ -40,7 +45,7 @@ pub fn pack_check(result: &Result<Codebook, u8>) -> u32 {
     }
 }
 
-/// The number for what code and read return.
+/// The number for what code, read and remainder return.
 pub fn pack_done(result: Result<(), u8>) -> u32 {
     match result {
         Ok(()) => 0,

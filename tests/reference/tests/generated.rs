@@ -256,6 +256,9 @@ fn words_and_messages_of_any_sort_are_of_every_sort() {
             let word = generate::any_word(&book, &mut random);
             let read = book.read(&word, &mut message);
             *answers.entry(format!("read {read:?}")).or_default() += 1;
+            let mut rest = vec![0; book.n() - book.k()];
+            let divided = book.remainder(&word, &mut rest);
+            *answers.entry(format!("remainder {divided:?}")).or_default() += 1;
             let mut word = vec![0; book.n()];
             let message = generate::any_message(&book, &mut random);
             let coded = book.code(&message, &mut word);
@@ -267,6 +270,9 @@ fn words_and_messages_of_any_sort_are_of_every_sort() {
         "read Err(9)",
         "read Err(11)",
         "read Err(12)",
+        "remainder Ok(())",
+        "remainder Err(9)",
+        "remainder Err(11)",
         "code Ok(())",
         "code Err(9)",
         "code Err(11)",
@@ -293,6 +299,7 @@ fn any_bytes_are_answered() {
         let answers = [
             coder::code(&bytes, &input, &mut word).err(),
             coder::read(&bytes, &input, &mut word).err(),
+            coder::remainder(&bytes, &input, &mut word).err(),
             matrix::matrix(&bytes, &input, &mut entries).err(),
             decode::decode(&bytes, &input, &mut word, &mut entries).err(),
         ];

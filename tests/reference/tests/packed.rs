@@ -14,8 +14,8 @@ fn check_has_l_in_byte_1() {
 }
 
 #[test]
-fn code_and_read_have_nothing_more() {
-    let (mut word, mut message) = ([255; 7], [255; 4]);
+fn code_read_and_remainder_have_nothing_more() {
+    let (mut word, mut message, mut rest) = ([255; 7], [255; 4], [255; 3]);
     assert_eq!(packed::code(&books::a(), &symbols("1000"), &mut word), 0);
     assert_eq!(word[..], symbols("1101000"));
     assert_eq!(packed::read(&books::a(), &word, &mut message), 0);
@@ -31,6 +31,14 @@ fn code_and_read_have_nothing_more() {
         11
     );
     assert_eq!(message[..], symbols("1000"));
+    let mut remainder =
+        |book: &[u8], word: &str| (packed::remainder(book, &symbols(word), &mut rest), rest);
+    assert_eq!(remainder(&books::a(), "1101001"), (0, [1, 0, 1]));
+    assert_eq!(remainder(&books::a(), "110100"), (9, [1, 0, 1]));
+    assert_eq!(remainder(&books::a(), "2101000"), (11, [1, 0, 1]));
+    assert_eq!(remainder(&books::a_with(8), "1101000"), (6, [1, 0, 1]));
+    assert_eq!(remainder(&books::b(), "111"), (10, [1, 0, 1]));
+    assert_eq!(remainder(&books::a(), "1101000"), (0, [0, 0, 0]));
 }
 
 #[test]

@@ -3,7 +3,7 @@
 
 use reference::books::{self, symbols};
 use reference::codebook::check;
-use reference::coder::{code, read};
+use reference::coder::{code, read, remainder};
 use reference::decode::decode;
 use reference::field::{inverse, product, sum};
 use reference::matrix::matrix;
@@ -19,6 +19,12 @@ fn refused_read(book: &[u8], word: &[u8], size: usize, number: u8) {
     let mut message = vec![0xa5; size];
     assert_eq!(read(book, word, &mut message), Err(number));
     assert_eq!(message, vec![0xa5; size]);
+}
+
+fn refused_remainder(book: &[u8], word: &[u8], size: usize, number: u8) {
+    let mut rest = vec![0xa5; size];
+    assert_eq!(remainder(book, word, &mut rest), Err(number));
+    assert_eq!(rest, vec![0xa5; size]);
 }
 
 fn refused_matrix(book: &[u8], word: &[u8], size: usize, number: u8) {
@@ -42,6 +48,8 @@ fn refused_book(book: &[u8], number: u8) {
     refused_code(book, &bad, 0, number);
     refused_read(book, &good, 4, number);
     refused_read(book, &bad, 0, number);
+    refused_remainder(book, &good, 3, number);
+    refused_remainder(book, &bad, 0, number);
     refused_matrix(book, &good, 14, number);
     refused_matrix(book, &bad, 13, number);
     refused_decode(book, &good, (7, 14), number);
@@ -232,6 +240,7 @@ fn row_9_input_length() {
     }
     for length in [0, 1, 4, 6, 8, 63, 300] {
         refused_read(&book, &vec![0; length], 4, 9);
+        refused_remainder(&book, &vec![0; length], 3, 9);
         refused_matrix(&book, &vec![0; length], 14, 9);
         refused_decode(&book, &vec![0; length], (7, 14), 9);
     }
@@ -254,6 +263,10 @@ fn row_10_output_size() {
     for size in [0, 1, 3, 5, 7] {
         refused_read(&book, &word, size, 10);
     }
+    for size in [0, 1, 2, 4, 7, 63] {
+        refused_remainder(&book, &word, size, 10);
+        refused_remainder(&book, &symbols("1000000"), size, 10);
+    }
 }
 
 #[test]
@@ -262,11 +275,13 @@ fn row_11_input_symbols() {
     let bad = ["2000000", "0000002", "0009000", "3333333"];
     for word in bad.map(symbols) {
         refused_read(&book, &word, 4, 11);
+        refused_remainder(&book, &word, 3, 11);
         refused_matrix(&book, &word, 14, 11);
         refused_decode(&book, &word, (7, 14), 11);
     }
     refused_code(&book, &symbols("0002"), 7, 11);
     refused_code(&book, &[255, 0, 0, 0], 7, 11);
+    refused_remainder(&books::b(), &symbols("141"), 2, 11);
     refused_decode(&books::b(), &symbols("141"), (3, 12), 11);
     for p in 1..=6 {
         let q = 1 << p;
@@ -286,6 +301,21 @@ fn row_12_read_of_no_code_word() {
     refused_read(&books::a(), &symbols("0000001"), 4, 12);
     refused_read(&books::b(), &symbols("120"), 1, 12);
     refused_read(&books::c(), &symbols("100"), 2, 12);
+}
+
+#[test]
+fn row_12_is_reads_alone() {
+    // What read refuses so is what a remainder is for.
+    for (book, word, size) in [
+        (books::a(), "1000000", 3),
+        (books::a(), "0000001", 3),
+        (books::b(), "120", 2),
+        (books::c(), "100", 1),
+    ] {
+        let mut rest = vec![0xa5; size];
+        assert_eq!(remainder(&book, &symbols(word), &mut rest), Ok(()));
+        assert_ne!(rest, vec![0; size]);
+    }
 }
 
 #[test]
@@ -352,12 +382,14 @@ fn of_two_faults_in_a_call_the_smaller_number_is_returned() {
     // 9 before 10 and 11.
     refused_code(&book, &long, 6, 9);
     refused_read(&book, &long, 5, 9);
+    refused_remainder(&book, &long, 4, 9);
     refused_matrix(&book, &long, 13, 9);
     refused_decode(&book, &long, (6, 13), 9);
     // 10 before 11 and 12.
     refused_code(&book, &symbols("2000"), 6, 10);
     refused_read(&book, &bad, 5, 10);
     refused_read(&book, &no_code_word, 5, 10);
+    refused_remainder(&book, &bad, 4, 10);
     refused_matrix(&book, &bad, 13, 10);
     refused_decode(&book, &bad, (7, 13), 10);
     refused_decode(&book, &bad, (6, 14), 10);
