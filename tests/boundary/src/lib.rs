@@ -26,6 +26,14 @@ extern "C" {
         message: *mut u8,
         message_len: usize,
     ) -> u32;
+    fn shiftsum_remainder(
+        book: *const u8,
+        book_len: usize,
+        word: *const u8,
+        word_len: usize,
+        remainder: *mut u8,
+        remainder_len: usize,
+    ) -> u32;
     fn shiftsum_decode(
         book: *const u8,
         book_len: usize,
@@ -52,12 +60,13 @@ unsafe extern "C" fn check_alone(
     shiftsum_check(book, book_len)
 }
 
-/// The four functions of the library.
+/// The functions of the library.
 #[derive(Clone, Copy, Debug, PartialEq, Eq)]
 pub enum Operation {
     Check,
     Code,
     Read,
+    Remainder,
     Decode,
 }
 
@@ -67,6 +76,7 @@ impl Operation {
             Operation::Check => check_alone,
             Operation::Code => shiftsum_code,
             Operation::Read => shiftsum_read,
+            Operation::Remainder => shiftsum_remainder,
             Operation::Decode => shiftsum_decode,
         }
     }
@@ -92,6 +102,7 @@ impl Operation {
             Operation::Check => packed::check(book),
             Operation::Code => packed::code(book, input, output),
             Operation::Read => packed::read(book, input, output),
+            Operation::Remainder => packed::remainder(book, input, output),
             Operation::Decode => packed::decode(book, input, output),
         }
     }

@@ -1,5 +1,5 @@
-//! Code and read against the second implementation, refused calls among
-//! them, and against each other.
+//! Code, read and remainder against the second implementation, refused calls
+//! among them, and code and read against each other.
 
 use boundary::compare::{hex, Trial};
 use boundary::draw::{self, Book};
@@ -30,9 +30,13 @@ fn input(operation: Operation, book: &Book, random: &mut Random) -> Vec<u8> {
         2 => generate::bad_symbol(right, q, random),
         3 => vec![0; right.len()],
         4 => generate::arbitrary(right.len(), q, random),
-        5 if operation == Operation::Read => {
+        5 if operation != Operation::Code => {
             let errors = random.between(1, book.n());
             generate::damaged_code_word(book, errors, random)
+        }
+        6 if operation == Operation::Remainder => {
+            let few = random.between(1, book.n().min(4));
+            generate::damaged_code_word(book, few, random)
         }
         _ => right,
     }
@@ -42,6 +46,7 @@ fn input(operation: Operation, book: &Book, random: &mut Random) -> Vec<u8> {
 fn exact(operation: Operation, book: &Book) -> usize {
     match operation {
         Operation::Read => book.parts.k(),
+        Operation::Remainder => book.parts.n() - book.parts.k(),
         _ => book.parts.n(),
     }
 }
@@ -68,10 +73,16 @@ fn calls(operation: Operation, test: u8, tally: &mut Tally) {
                     input: &input(operation, &book, &mut random),
                     held: &draw::bytes(size, &mut random),
                 };
-                let number = refusal(trial.compare().result);
+                let given = trial.compare();
+                let number = refusal(given.result);
                 assert!(fault == 0 || number == fault, "{trial}");
+                assert!(operation == Operation::Read || number < 12, "{trial}");
                 tally.tried();
                 tally.count("result", number);
+                if number == 0 && operation == Operation::Remainder {
+                    let zero = given.output.iter().all(|&symbol| symbol == 0);
+                    tally.count("remainder", if zero { "zero" } else { "not zero" });
+                }
                 match number {
                     0 => tally.count("accepted, s and p", format!("{s} {p}")),
                     9 if trial.input.is_empty() => tally.count("input", "empty"),
@@ -104,6 +115,14 @@ fn code_is_the_references() {
 fn read_is_the_references() {
     let mut tally = due(Tally::new("read").due("result", 0..=12));
     calls(Operation::Read, 2, &mut tally);
+    tally.finish(40);
+}
+
+#[test]
+fn remainder_is_the_references() {
+    let mut tally =
+        due(Tally::new("remainder").due("result", 0..=11)).due("remainder", ["zero", "not zero"]);
+    calls(Operation::Remainder, 4, &mut tally);
     tally.finish(40);
 }
 
