@@ -11,7 +11,7 @@
 #include <stdlib.h>
 #include <string.h>
 
-enum { BOOK = 134, RECORD = 64, WORD_A = 7, MESSAGE_A = 4, LARGEST = 63, GUARD = 32 };
+enum { BOOK = 134, RECORD = 64, WORD_A = 7, MESSAGE_A = 4, REMAINDER_A = 3, LARGEST = 63, GUARD = 32 };
 
 /* Where the parts of a codebook lie. */
 enum { AT_KIND = 0, AT_S = 1, AT_P = 2, AT_G = 4, AT_I = 68, AT_D = 69, AT_DUAL_WORD = 71 };
@@ -177,6 +177,15 @@ static void codes(const char *name, const uint8_t *book, const char *message, co
     gives(name, shiftsum_read, book, word, message, 0);
 }
 
+/* The remainder of a word, which read takes exactly if it is zero; k is the length of a message. */
+static void leaves(const char *name, const uint8_t *book, const char *word, const char *rest, size_t k)
+{
+    uint8_t in[LARGEST], message[LARGEST];
+    size_t len = symbols(in, word);
+    gives(name, shiftsum_remainder, book, word, rest, 0);
+    expect_number(name, "the result of read", shiftsum_read(book, BOOK, in, len, message, k), strspn(rest, "0") == strlen(rest) ? 0 : 12);
+}
+
 /* A copy of a codebook with one byte changed, good until the next one. */
 static const uint8_t *with(const uint8_t *book, size_t at, uint8_t byte)
 {
@@ -241,6 +250,35 @@ static void test_cases(void)
     decodes("the program's third word", book_a, "1101000", SHIFTSUM_CLEAN, 0, 0, "1101000");
 }
 
+/* By hand: modulo A's 1 + x + x^3, B's 1 + x + x^2 and C's 2 + x. */
+static void test_remainder(void)
+{
+    leaves("A, 1", book_a, "1000000", "100", MESSAGE_A);
+    leaves("A, x", book_a, "0100000", "010", MESSAGE_A);
+    leaves("A, x^2", book_a, "0010000", "001", MESSAGE_A);
+    leaves("A, x^3", book_a, "0001000", "110", MESSAGE_A);
+    leaves("A, x^4", book_a, "0000100", "011", MESSAGE_A);
+    leaves("A, x^5", book_a, "0000010", "111", MESSAGE_A);
+    leaves("A, x^6", book_a, "0000001", "101", MESSAGE_A);
+    /* An error at x^6 on the code words of the cases; two errors that look like one; and the code words alone. */
+    leaves("A, case 2 and x^6", book_a, "1101001", "101", MESSAGE_A);
+    leaves("A, case 3 and x^6", book_a, "1011101", "101", MESSAGE_A);
+    leaves("A, 1 + x, as x^3", book_a, "1100000", "110", MESSAGE_A);
+    leaves("A, no error", book_a, "0000000", "000", MESSAGE_A);
+    leaves("A, case 2", book_a, "1101000", "000", MESSAGE_A);
+    leaves("A, case 3", book_a, "1011100", "000", MESSAGE_A);
+    leaves("A, all symbols", book_a, "1111111", "000", MESSAGE_A);
+    leaves("B, case 11", book_b, "120", "12", 1);
+    leaves("B, case 12", book_b, "132", "31", 1);
+    leaves("B, case 10", book_b, "311", "20", 1);
+    leaves("B, 3 x^2", book_b, "003", "33", 1);
+    leaves("B, a code word", book_b, "222", "00", 1);
+    leaves("C, case 13", book_c, "100", "1", 2);
+    leaves("C, x", book_c, "010", "2", 2);
+    leaves("C, 3 x^2", book_c, "003", "2", 2);
+    leaves("C, case 4", book_c, "021", "0", 2);
+}
+
 /* A refused codebook is refused by every function, whatever the call is else. */
 static void refused(const char *name, const uint8_t *book, size_t book_len, uint32_t number)
 {
@@ -254,6 +292,8 @@ static void refused(const char *name, const uint8_t *book, size_t book_len, uint
     take_back(lent);
     call(name, shiftsum_code, book, book_len, message, MESSAGE_A, NULL, WORD_A, number);
     call(name, shiftsum_read, book, book_len, word, WORD_A, NULL, MESSAGE_A, number);
+    call(name, shiftsum_remainder, book, book_len, word, WORD_A, NULL, REMAINDER_A, number);
+    call(name, shiftsum_remainder, book, book_len, bad, WORD_A, NULL, REMAINDER_A + 1, number);
     call(name, shiftsum_decode, book, book_len, word, WORD_A, NULL, WORD_A, number);
     call(name, shiftsum_decode, book, book_len, bad, WORD_A - 1, NULL, WORD_A + 1, number);
     call(name, shiftsum_code, book, book_len, message, 0, NULL, 0, number);
@@ -292,30 +332,45 @@ static void test_refused_calls(void)
     refuses("refusal 9: code 5 symbols", shiftsum_code, book_a, "10000", WORD_A, 9);
     refuses("refusal 9: code no symbols", shiftsum_code, book_a, "", WORD_A, 9);
     refuses("refusal 9: read 6 symbols", shiftsum_read, book_a, "110100", MESSAGE_A, 9);
+    refuses("refusal 9: the remainder of 6 symbols", shiftsum_remainder, book_a, "110100", REMAINDER_A, 9);
+    refuses("refusal 9: the remainder of 8 symbols", shiftsum_remainder, book_a, "11010000", REMAINDER_A, 9);
+    refuses("refusal 9: the remainder of no symbols", shiftsum_remainder, book_a, "", REMAINDER_A, 9);
     refuses("refusal 9: decode 8 symbols", shiftsum_decode, book_a, "11010000", WORD_A, 9);
     refuses("refusal 9: decode no symbols", shiftsum_decode, book_a, "", WORD_A, 9);
     refuses("refusal 10: a word of 6", shiftsum_code, book_a, "1000", 6, 10);
     refuses("refusal 10: a word of 8", shiftsum_code, book_a, "1000", 8, 10);
     refuses("refusal 10: a message of 3", shiftsum_read, book_a, "1101000", 3, 10);
     refuses("refusal 10: a message of 7", shiftsum_read, book_a, "1101000", 7, 10);
+    refuses("refusal 10: a remainder of 2", shiftsum_remainder, book_a, "1000000", 2, 10);
+    refuses("refusal 10: a remainder of 4", shiftsum_remainder, book_a, "1000000", 4, 10);
+    refuses("refusal 10: a remainder of 7", shiftsum_remainder, book_a, "1101000", 7, 10);
+    refuses("refusal 10: a remainder of 0", shiftsum_remainder, book_a, "1101000", 0, 10);
+    refuses("refusal 10: a remainder of 63", shiftsum_remainder, book_a, "1000000", LARGEST, 10);
     refuses("refusal 10: an answer of 6", shiftsum_decode, book_a, "1000000", 6, 10);
     refuses("refusal 10: an answer of 0", shiftsum_decode, book_a, "1000000", 0, 10);
     refuses("refusal 10: an answer of 63", shiftsum_decode, book_a, "1000000", LARGEST, 10);
     refuses("refusal 11: code 0002", shiftsum_code, book_a, "0002", WORD_A, 11);
     refuses("refusal 11: read 2000000", shiftsum_read, book_a, "2000000", MESSAGE_A, 11);
+    refuses("refusal 11: the remainder of 2000000", shiftsum_remainder, book_a, "2000000", REMAINDER_A, 11);
+    refuses("refusal 11: the remainder of 1101002", shiftsum_remainder, book_a, "1101002", REMAINDER_A, 11);
+    refuses("refusal 11: the remainder of 114", shiftsum_remainder, book_b, "114", 2, 11);
     refuses("refusal 11: decode 2000000", shiftsum_decode, book_a, "2000000", WORD_A, 11);
     refuses("refusal 11: decode 114", shiftsum_decode, book_b, "114", 3, 11);
     refuses("refusal 12: read 1000000", shiftsum_read, book_a, "1000000", MESSAGE_A, 12);
     refuses("refusal 12: read 120", shiftsum_read, book_b, "120", 1, 12);
     /* Of two the smaller. */
     refuses("refusals 9, 10 and 11", shiftsum_decode, book_a, "20000000", 6, 9);
+    refuses("refusals 9, 10 and 11", shiftsum_remainder, book_a, "20000000", 4, 9);
     refuses("refusals 10 and 11", shiftsum_code, book_a, "2000", 6, 10);
+    refuses("refusals 10 and 11", shiftsum_remainder, book_a, "2000000", 4, 10);
     refuses("refusals 10 and 12", shiftsum_read, book_a, "1000000", 5, 10);
 }
 
-/* n 63 over GF(64): g is x + 1, so that place j of a code word is the sum of places j and j - 1 of the message. */
+/* n 63 over GF(64): g is x + 1, so that place j of a code word is the sum of places j and j - 1 of the message, and the one symbol of a remainder is
+ * the sum of all symbols of the word. */
 static void test_largest(void)
 {
+    const uint8_t no_error = 0, error = 42;
     uint8_t book[BOOK] = {1, 6, 6, 2, 1, 1};
     uint8_t message[LARGEST - 1], word[LARGEST], received[LARGEST], answer[LARGEST];
     size_t j;
@@ -331,16 +386,42 @@ static void test_largest(void)
     expect_number("n 63", "the result of check", shiftsum_check(book, BOOK), 0x100);
     call("n 63, code", shiftsum_code, book, BOOK, message, LARGEST - 1, word, LARGEST, 0);
     call("n 63, read", shiftsum_read, book, BOOK, word, LARGEST, message, LARGEST - 1, 0);
+    call("n 63, the remainder of a code word", shiftsum_remainder, book, BOOK, word, LARGEST, &no_error, 1, 0);
     call("n 63, decode a code word", shiftsum_decode, book, BOOK, word, LARGEST, word, LARGEST, decoded(SHIFTSUM_CLEAN, 0, 0));
     /* Every check value is the sum of all symbols, which is the error; so it is subtracted at all 63 places, and the sum is 0 then. */
     memcpy(received, word, LARGEST);
-    received[17] ^= 42;
+    received[17] ^= error;
     for (j = 0; j < LARGEST; j++)
-        answer[j] = received[j] ^ 42;
+        answer[j] = received[j] ^ error;
     call("n 63, decode an error", shiftsum_decode, book, BOOK, received, LARGEST, answer, LARGEST, decoded(SHIFTSUM_MENDED, 1, 63));
+    call("n 63, the remainder of an error", shiftsum_remainder, book, BOOK, received, LARGEST, &error, 1, 0);
     call("n 63, read an error", shiftsum_read, book, BOOK, received, LARGEST, NULL, LARGEST - 1, 12);
     received[62] = 64;
     call("n 63, decode a bad symbol", shiftsum_decode, book, BOOK, received, LARGEST, NULL, LARGEST, 11);
+    call("n 63, the remainder of a bad symbol", shiftsum_remainder, book, BOOK, received, LARGEST, NULL, 1, 11);
+}
+
+/* The longest remainder: g has 1 at all 63 places, so that a message is one symbol and x^62 is the sum of the powers below it. */
+static void test_longest_remainder(void)
+{
+    uint8_t book[BOOK] = {1, 6, 6, 2};
+    uint8_t word[LARGEST], rest[LARGEST - 1];
+    size_t j;
+    memset(book + AT_G, 1, LARGEST);
+    book[67] = 3;
+    book[AT_I] = 1;
+    book[AT_D] = 1;
+    book[AT_DUAL_WORD - 1] = 4;
+    book[AT_DUAL_WORD] = 1;
+    book[AT_DUAL_WORD + 1] = 1;
+    expect_number("n 63, k 1", "the result of check", shiftsum_check(book, BOOK), 0x100);
+    for (j = 0; j < LARGEST; j++)
+        word[j] = (uint8_t)j;
+    for (j = 0; j < LARGEST - 1; j++)
+        rest[j] = (uint8_t)(word[j] ^ word[LARGEST - 1]);
+    call("n 63, k 1, the remainder", shiftsum_remainder, book, BOOK, word, LARGEST, rest, LARGEST - 1, 0);
+    call("n 63, k 1, a remainder of 63", shiftsum_remainder, book, BOOK, word, LARGEST, NULL, LARGEST, 10);
+    call("n 63, k 1, a remainder of 1", shiftsum_remainder, book, BOOK, word, LARGEST, NULL, 1, 10);
 }
 
 int main(void)
@@ -348,9 +429,11 @@ int main(void)
     test_macros();
     test_check();
     test_cases();
+    test_remainder();
     test_refused_codebooks();
     test_refused_calls();
     test_largest();
+    test_longest_remainder();
     printf("%lu passed, %lu failed\n", passed, failed);
     return failed == 0 ? 0 : 1;
 }
