@@ -1,8 +1,8 @@
 /*
- * The four functions of the library on any bytes, against the second implementation: a target for libFuzzer.
+ * The functions of the library on any bytes, against the second implementation: a target for libFuzzer.
  *
- * An input makes one codebook, a message, a received word and the sizes of the outputs, and all four functions are called with them; decode again
- * with a few errors more where the word was not refused. So that most calls get past the codebook's refusals, an input mostly names an accepted
+ * An input makes one codebook, a message, a received word and the sizes of the outputs, and all functions are called with them; decode again with a
+ * few errors more where the word was not refused. So that most calls get past the codebook's refusals, an input mostly names an accepted
  * codebook of a shelf and a few edits; it can give all bytes as well.
  *
  * The archive is not made for the sanitizer, which therefore sees nothing of what happens in it. So every buffer lies in pages of its own between
@@ -23,6 +23,7 @@
 uint32_t reference_check(const uint8_t *book, size_t book_len);
 uint32_t reference_code(const uint8_t *book, size_t book_len, const uint8_t *message, size_t message_len, uint8_t *word, size_t word_len);
 uint32_t reference_read(const uint8_t *book, size_t book_len, const uint8_t *word, size_t word_len, uint8_t *message, size_t message_len);
+uint32_t reference_remainder(const uint8_t *book, size_t book_len, const uint8_t *word, size_t word_len, uint8_t *remainder, size_t remainder_len);
 uint32_t reference_decode(const uint8_t *book, size_t book_len, const uint8_t *received, size_t received_len, uint8_t *answer, size_t answer_len);
 size_t reference_shelf(size_t number, uint8_t *book);
 
@@ -341,7 +342,7 @@ static uint32_t expected_check(const uint8_t *book, size_t book_len, const uint8
     return reference_check(book, book_len);
 }
 
-enum { CHECK, CODE, READ, DECODE, FUNCTIONS };
+enum { CHECK, CODE, READ, REMAINDER, DECODE, FUNCTIONS };
 
 static const struct {
     const char *name;
@@ -351,6 +352,7 @@ static const struct {
     {"check", library_check, expected_check, 8},
     {"code", shiftsum_code, reference_code, 11},
     {"read", shiftsum_read, reference_read, 12},
+    {"remainder", shiftsum_remainder, reference_remainder, 11},
     {"decode", shiftsum_decode, reference_decode, 11},
 };
 
@@ -364,6 +366,48 @@ static void print_bytes(const char *what, const uint8_t *bytes, size_t len)
 }
 
 #ifdef FAULTS
+/* The faults that a remainder could have, made of a right one. The word without its remainder is a code word. */
+__attribute__((no_sanitize("address"))) static uint32_t faulty_remainder(const char *fault, uint32_t result)
+{
+    volatile uint8_t *output = output_area.buffer;
+    const size_t n = input_area.len, rest = output_area.len, k = n - rest;
+    uint8_t word[LARGEST], quotient[LARGEST] = {0}, first;
+    size_t place, nonzero = 0;
+    if (strcmp(fault, "early") == 0 && result == 11)
+        output[0] = output[0];
+    if (result != 0)
+        return result;
+    for (place = 0; place < rest; place++)
+        nonzero += output[place] != 0;
+    if (strcmp(fault, "quotient") == 0) {
+        for (place = 0; place < n; place++)
+            word[place] = (uint8_t)(input_area.buffer[place] ^ (place < rest ? output[place] : 0));
+        reference_read(book_area.buffer, book_area.len, word, n, quotient, k);
+        for (place = 0; place < rest; place++)
+            output[place] = quotient[place];
+    }
+    if (strcmp(fault, "highest") == 0)
+        for (place = 0; place < rest / 2; place++) {
+            first = output[place];
+            output[place] = output[rest - 1 - place];
+            output[rest - 1 - place] = first;
+        }
+    if (strcmp(fault, "places") == 0)
+        for (place = rest; place < n; place++)
+            output[place] = 0;
+    if (strcmp(fault, "undivided") == 0)
+        for (place = 0; place < rest; place++)
+            output[place] = input_area.buffer[place];
+    if (strcmp(fault, "zero") == 0)
+        for (place = 0; place < rest; place++)
+            output[place] = 0;
+    if (strcmp(fault, "last") == 0)
+        output[rest - 1] = 0;
+    if (strcmp(fault, "twelve") == 0 && nonzero > 0)
+        return 12;
+    return result;
+}
+
 /* The faults that a library could have. They are done as the archive would do them, unseen by the sanitizer. */
 __attribute__((no_sanitize("address"))) static uint32_t faulty(int which, uint32_t result)
 {
@@ -372,6 +416,8 @@ __attribute__((no_sanitize("address"))) static uint32_t faulty(int which, uint32
     const char kind = which == DECODE && SHIFTSUM_REFUSAL(result) == 0 ? SHIFTSUM_KIND(result) : '-';
     if (fault == NULL)
         return result;
+    if (which == REMAINDER)
+        return faulty_remainder(fault, result);
     if (strcmp(fault, "refusal") == 0 && which == CHECK && result == 7)
         return 8;
     if (strcmp(fault, "count") == 0 && which == CHECK && SHIFTSUM_DUAL_WORDS(result) > 3)
@@ -435,7 +481,7 @@ static void count(int which, uint32_t result, const struct bytes *book)
         mark = mark * 4 + (rounds < 4 ? rounds : 3);
         mark = mark * 4 + (changed < 4 ? changed : 3);
     }
-    seen[64 + mark % (SEEN - 64)] = 1;
+    seen[16 * FUNCTIONS + mark % (SEEN - 16 * FUNCTIONS)] = 1;
 }
 
 /* Where library and second implementation differ, all that is needed to see why. */
@@ -503,6 +549,7 @@ int LLVMFuzzerTestOneInput(const uint8_t *data, size_t len)
     /* Sizes first, so that what an input has left goes to the symbols. */
     const size_t message_len = size(shape.k, &input), word_len = size(shape.n, &input);
     const size_t coded_len = size(shape.n, &input), read_len = size(shape.k, &input), answer_len = size(shape.n, &input);
+    const size_t rest_len = size(shape.n - shape.k, &input);
     input.drawn = (uint32_t)next_two(&input);
     make_symbols(&message, shape.k, shape.q, next(&input), &input);
     make_word(&word, &book, shape, &message, &input);
@@ -515,6 +562,8 @@ int LLVMFuzzerTestOneInput(const uint8_t *data, size_t len)
     compare(CODE, &book, &message, &held, places);
     hold(&held, read_len, first);
     compare(READ, &book, &word, &held, places >> 3);
+    hold(&held, rest_len, first);
+    compare(REMAINDER, &book, &word, &held, places >> 4);
     hold(&held, answer_len, first);
     if (products(&book, shape) > MOST_PRODUCTS)
         left_out++;
@@ -532,16 +581,18 @@ int LLVMFuzzerTestOneInput(const uint8_t *data, size_t len)
 static void print_counts(void)
 {
     static const char letters[] = "CMSX";
+    unsigned long all = 0;
     int which, column;
     unsigned number;
-    printf("%-7s %9s %9s", "result", "calls", "accepted");
+    printf("%-9s %9s %9s", "result", "calls", "accepted");
     for (column = 0; column < 4; column++)
         printf(" %7c", letters[column]);
     for (number = 1; number <= 12; number++)
         printf(" %6u", number);
     printf("\n");
     for (which = 0; which < FUNCTIONS; which++) {
-        printf("%-7s %9lu %9lu", functions[which].name, calls[which], accepted[which]);
+        all += calls[which];
+        printf("%-9s %9lu %9lu", functions[which].name, calls[which], accepted[which]);
         for (column = 0; column < 4; column++)
             if (which == DECODE)
                 printf(" %7lu", kinds[(unsigned)letters[column]]);
@@ -554,8 +605,8 @@ static void print_counts(void)
                 printf(" %6s", "-");
         printf("\n");
     }
-    printf("%-7s %9lu %9s %7s %7lu %7lu %7lu\n", "later", later['M'] + later['S'] + later['X'], "-", "-", later['M'], later['S'], later['X']);
-    printf("calls: %lu; decodes left out as too slow: %lu\n", calls[CHECK] + calls[CODE] + calls[READ] + calls[DECODE], left_out);
+    printf("%-9s %9lu %9s %7s %7lu %7lu %7lu\n", "later", later['M'] + later['S'] + later['X'], "-", "-", later['M'], later['S'], later['X']);
+    printf("calls: %lu; decodes left out as too slow: %lu\n", all, left_out);
     fflush(stdout);
 }
 
@@ -567,7 +618,7 @@ static void write_seeds(const char *folder)
         const struct bytes *book = &shelf[number / 2];
         const uint8_t drawn = (uint8_t)(number / 2), whole[] = {WHOLE, (uint8_t)(book->len & 255), (uint8_t)(book->len >> 8)}, named[] = {0, drawn};
         /* No edits, the exact sizes, and a code word with none to four errors. */
-        const uint8_t rest[] = {0, drawn, drawn, 0, 0, 0, 0, 0, drawn, 1, 0, (uint8_t)(drawn % 5 * 8)};
+        const uint8_t rest[] = {0, drawn, drawn, 0, 0, 0, 0, 0, 0, drawn, 1, 0, (uint8_t)(drawn % 5 * 8)};
         char name[4096];
         FILE *file;
         if (number % 2 == 1 && drawn % 8 != 0)

@@ -59,6 +59,27 @@ pub unsafe extern "C" fn reference_read(
     )
 }
 
+/// Remainder.
+///
+/// # Safety
+///
+/// As above.
+#[no_mangle]
+pub unsafe extern "C" fn reference_remainder(
+    book: *const u8,
+    book_len: usize,
+    word: *const u8,
+    word_len: usize,
+    remainder: *mut u8,
+    remainder_len: usize,
+) -> u32 {
+    packed::remainder(
+        slice::from_raw_parts(book, book_len),
+        slice::from_raw_parts(word, word_len),
+        slice::from_raw_parts_mut(remainder, remainder_len),
+    )
+}
+
 /// Decode.
 ///
 /// # Safety
