@@ -179,6 +179,7 @@ int main(void)
     test((struct call){"read", shiftsum_read, large, sizeof large, N, K, 0, 0, 0}, thread_alone);
     input[0] = 1;
     test((struct call){"read, refused by 12", shiftsum_read, large, sizeof large, N, K, 12, 0, 0}, thread_alone);
+    test((struct call){"remainder", shiftsum_remainder, large, sizeof large, N, N - K, 0, 0, 0}, thread_alone);
     test((struct call){"decode, 32 dual words", shiftsum_decode, large, sizeof large, N, N, 0, 1, 0}, thread_alone);
     test((struct call){"decode, 63 rounds", shiftsum_decode, long_run, sizeof long_run, N, N, 0, 63, 0}, thread_alone);
     printf("%lu passed, %lu failed\n", passed, failed);
