@@ -1,5 +1,6 @@
 /*
- * Measures the library against the transcription (literal.c) and the best C (fast.c, four times compiled): whole decodes, checks, rounds and growth.
+ * Measures the library against the transcription (literal*.c) and the best C (fast.c, four times compiled): whole decodes, checks, rounds, growth and
+ * remainders.
  * Every time is the least of many short runs, taken in turns, since the machine may be shared. First all must agree on every word.
  *
  *   bench BOOKS OUT                       writes OUT/table.txt, OUT/table.md, OUT/table.csv, OUT/growth.csv
@@ -17,6 +18,7 @@
 
 #define COMPILED(name) \
     uint32_t name##_check(const uint8_t *, size_t); \
+    uint32_t name##_remainder(const uint8_t *, size_t, const uint8_t *, size_t, uint8_t *, size_t); \
     uint32_t name##_decode(const uint8_t *, size_t, const uint8_t *, size_t, uint8_t *, size_t);
 COMPILED(clang)
 COMPILED(gcc_avx2)
@@ -26,9 +28,11 @@ enum { OURS, LITERAL, GCC, CLANG, GCC_AVX2, CLANG_AVX2, WAYS, WORDS = 4, LEAST_T
 
 typedef uint32_t Check(const uint8_t *, size_t);
 typedef uint32_t Decode(const uint8_t *, size_t, const uint8_t *, size_t, uint8_t *, size_t);
+typedef Decode Remainder;
 
 static Check *const checks[WAYS] = {shiftsum_check, literal_check, gcc_check, clang_check, gcc_avx2_check, clang_avx2_check};
 static Decode *const decodes[WAYS] = {shiftsum_decode, literal_decode, gcc_decode, clang_decode, gcc_avx2_decode, clang_avx2_decode};
+static Remainder *const remainders[WAYS] = {shiftsum_remainder, literal_remainder, gcc_remainder, clang_remainder, gcc_avx2_remainder, clang_avx2_remainder};
 static const char *const class_names[CLASSES] = {"clean", "one round", "most rounds"};
 
 typedef struct {
@@ -38,10 +42,10 @@ typedef struct {
     unsigned q, duals, weight;
 } Book;
 
-/* Words of one class; all have the same number of rounds. */
+/* Words of one class; all have the same number of rounds. They are decoded, or only divided. */
 typedef struct {
     uint8_t word[WORDS][63];
-    int count, rounds;
+    int count, rounds, divided;
     char kind;
 } Class;
 
@@ -134,7 +138,7 @@ static uint32_t agreed(const Book *b, const uint8_t *word, int with_literal)
 static void find(const Book *b, int class, int trials, Class *c)
 {
     uint8_t word[63], answer[63];
-    c->count = 0;
+    c->count = c->divided = 0;
     c->rounds = class == CLEAN ? 0 : 1;
     for (int i = 0; i < trials && (class == MOST_ROUNDS || c->count < WORDS); i++) {
         make_word(b, class == CLEAN ? 0 : 1 + (int)(random64() % (1 + (class == ONE_ROUND ? 2 : b->n / 2))), word);
@@ -160,7 +164,9 @@ static double run(const Book *b, const Class *c, int way, long times)
     uint8_t answer[63];
     double start = microseconds();
     for (long i = 0; i < times; i++)
-        if (c)
+        if (c && c->divided)
+            remainders[way](b->bytes, b->len, c->word[i % c->count], b->n, answer, b->n - b->k);
+        else if (c)
             decodes[way](b->bytes, b->len, c->word[i % c->count], b->n, answer, b->n);
         else
             checks[way](b->bytes, b->len);
@@ -275,6 +281,42 @@ static void whole_decodes(const char *folder)
     heading("The check of a book", "book", "");
     for (int i = 0; i < BOOKS; i++)
         row(books[i], "check", checked[i]);
+}
+
+/* Result and remainder of every way; of a word refused now and then, and with an output of another size. */
+static void remainders_agree(const Book *b)
+{
+    uint8_t word[63], first[64], other[64];
+    for (int i = 0; i < 400; i++) {
+        size_t size = b->n - b->k + (i % 50 == 49);
+        make_word(b, i % 16, word);
+        if (i % 40 == 39)
+            word[random64() % b->n] = (uint8_t)random64();
+        memset(first, 0xee, sizeof first);
+        uint32_t result = literal_remainder(b->bytes, b->len, word, b->n, first, size);
+        for (int w = 0; w < ways; w++) {
+            memset(other, 0xee, sizeof other);
+            if (remainders[w](b->bytes, b->len, word, b->n, other, size) != result || memcmp(first, other, sizeof first) != 0)
+                fail("remainders differ", b->name);
+        }
+    }
+}
+
+/* Words with errors, as a receiver sorts them. Last of all, so that no other row has other words for it. */
+static void whole_remainders(const char *folder)
+{
+    double t[WAYS];
+    heading("The remainder of a word over the C boundary, the book checked in each call", "book", "");
+    for (int i = 0; i < BOOKS; i++) {
+        Book b;
+        Class c;
+        load(&b, folder, books[i]);
+        remainders_agree(&b);
+        find(&b, ONE_ROUND, 4000, &c);
+        c.divided = 1;
+        measure(&b, &c, 4e5, t);
+        row(books[i], "remainder", t);
+    }
 }
 
 /* A round's time for each way, and divided by L * weight * n, which should hardly change. */
@@ -422,5 +464,6 @@ int main(int count, char **given)
     whole_decodes(given[1]);
     split(given[1]);
     growths(given[1]);
+    whole_remainders(given[1]);
     return 0;
 }

@@ -141,35 +141,47 @@ INLINE uint64_t plane(const uint8_t *word, int k)
     return bits;
 }
 
-/* h = (x^n - 1) / g by a shift register of p numbers whose top bits are the next coefficient of h. Says whether nothing is left. */
-INLINE int quotient_by(const int p, const uint8_t *g, int d, int k, uint8_t *h)
+/* What a step of the shift register subtracts: multiples of g less its leading coefficient, by the symbol that falls out. Up to p 3 only those by
+ * powers of x, since the others are sums of a few. */
+INLINE void register_rows(const int p, const uint8_t *g, int d, uint64_t rows[64][6])
 {
-    uint64_t rows[64][6], state[6] = {0}, left = 0;
-    const int table = p > 3;
     for (int i = 0; i < p; i++)
         rows[0][i] = 0;
     for (int i = 0; i < p; i++)
         rows[1][i] = plane(g, i) << (64 - d);
     for (int c = 2; c < 1 << p; c++) {
         int low = c & -c;
-        if (low != c && !table)
+        if (low != c && p <= 3)
             continue;
         for (int i = 0; i < p; i++)
             rows[c][i] = low != c ? rows[c - low][i] ^ rows[low][i]
                                   : (i ? rows[c / 2][i - 1] : 0) ^ (polynomials[p] >> i & 1 ? rows[c / 2][p - 1] : 0);
     }
-    state[0] = (uint64_t)1 << 63;
-    for (int i = k; i >= 0; i--) {
-        uint64_t c = 0, add[6] = {0};
-        for (int a = 0; a < p; a++) {
-            c |= (state[a] >> 63) << a;
-            for (int b = 0; b < p && !table; b++)
-                add[b] ^= rows[1 << a][b] & (uint64_t)((int64_t)state[a] >> 63);
-        }
-        h[i] = (uint8_t)c;
-        for (int a = 0; a < p; a++)
-            state[a] = state[a] << 1 ^ (table ? rows[c][a] : add[a]);
+}
+
+/* A step of the shift register, p numbers whose top bits are the next coefficient of the quotient: that coefficient. */
+INLINE uint64_t register_step(const int p, uint64_t rows[64][6], uint64_t *state)
+{
+    const int table = p > 3;
+    uint64_t c = 0, add[6] = {0};
+    for (int a = 0; a < p; a++) {
+        c |= (state[a] >> 63) << a;
+        for (int b = 0; b < p && !table; b++)
+            add[b] ^= rows[1 << a][b] & (uint64_t)((int64_t)state[a] >> 63);
     }
+    for (int a = 0; a < p; a++)
+        state[a] = state[a] << 1 ^ (table ? rows[c][a] : add[a]);
+    return c;
+}
+
+/* h = (x^n - 1) / g. Says whether nothing is left. */
+INLINE int quotient_by(const int p, const uint8_t *g, int d, int k, uint8_t *h)
+{
+    uint64_t rows[64][6], state[6] = {0}, left = 0;
+    register_rows(p, g, d, rows);
+    state[0] = (uint64_t)1 << 63;
+    for (int i = k; i >= 0; i--)
+        h[i] = (uint8_t)register_step(p, rows, state);
     state[0] ^= (uint64_t)1 << (64 - d);
     for (int a = 0; a < p; a++)
         left |= state[a];
@@ -953,15 +965,20 @@ static uint32_t run(Fast *f, const uint8_t *received, uint8_t *word, int *ready,
     return packed('X', f->rounds, 0);
 }
 
-/* A received word of n symbols, refusal 11 looked for. */
-static uint32_t decode_word(Fast *f, const uint8_t *received, int *ready, uint8_t *answer)
+/* A word of n symbols and zeros, or refusal 11. */
+INLINE unsigned take_word(const Fast *f, const uint8_t *received, uint8_t *word)
 {
-    uint8_t word[64] ALIGNED = {0};
     Vec bad = {0};
     memcpy(word, received, (size_t)f->n);
     for (int v = 0; v < WORD; v++)
         bad |= get(word + v * VB);
-    if (any(bad & all((uint8_t)~(f->q - 1))))
+    return any(bad & all((uint8_t)~(f->q - 1))) ? 11 : 0;
+}
+
+static uint32_t decode_word(Fast *f, const uint8_t *received, int *ready, uint8_t *answer)
+{
+    uint8_t word[64] ALIGNED = {0};
+    if (take_word(f, received, word))
         return 11;
     if (f->p == 1)
         return run_bits(f, received, word, ready, answer, 1);
@@ -974,6 +991,49 @@ uint32_t FAST(check)(const uint8_t *book, size_t book_len)
 {
     Fast f;
     return accept(&f, book, book_len) ? 256u * (unsigned)f.duals : literal_check(book, book_len);
+}
+
+/* The word through the shift register: after k steps its top d bits are what is left. The bits of a number, a byte each, by a multiplication. */
+INLINE void divide_by(const int p, const Fast *f, const uint8_t *word, uint8_t *rest)
+{
+    uint64_t rows[64][6], state[6];
+    register_rows(p, f->book + AT_G, f->d, rows);
+    for (int a = 0; a < p; a++)
+        state[a] = plane(word, a) << (64 - f->n);
+    for (int i = 0; i < f->k; i++)
+        register_step(p, rows, state);
+    for (int i = 0; i < 8; i++) {
+        uint64_t bytes = 0;
+        for (int a = 0; a < p; a++) {
+            uint64_t bits = (state[a] >> (64 - f->d) >> 8 * i & 255) * 0x0101010101010101u & 0x8040201008040201u;
+            bytes |= ((bits + 0x7f7f7f7f7f7f7f7fu) >> 7 & 0x0101010101010101u) << a;
+        }
+        memcpy(rest + 8 * i, &bytes, 8);
+    }
+}
+
+uint32_t FAST(remainder)(const uint8_t *book, size_t book_len, const uint8_t *word, size_t word_len, uint8_t *remainder, size_t remainder_len)
+{
+    Fast f;
+    uint8_t padded[64] ALIGNED = {0}, rest[64];
+    if (!accept(&f, book, book_len))
+        return literal_check(book, book_len);
+    if (word_len != (size_t)f.n)
+        return 9;
+    if (remainder_len != (size_t)f.d)
+        return 10;
+    if (take_word(&f, word, padded))
+        return 11;
+    switch (f.p) {
+    case 1: divide_by(1, &f, padded, rest); break;
+    case 2: divide_by(2, &f, padded, rest); break;
+    case 3: divide_by(3, &f, padded, rest); break;
+    case 4: divide_by(4, &f, padded, rest); break;
+    case 5: divide_by(5, &f, padded, rest); break;
+    default: divide_by(6, &f, padded, rest); break;
+    }
+    memcpy(remainder, rest, remainder_len);
+    return 0;
 }
 
 uint32_t FAST(decode)(const uint8_t *book, size_t book_len, const uint8_t *received, size_t received_len, uint8_t *answer, size_t answer_len)
