@@ -1,4 +1,4 @@
-/* A codebook as the desk holds it: its bytes, and the sizes that follow from them once it is accepted. */
+/* A codebook as the examples hold it: its bytes, and the sizes that follow from them once it is accepted. */
 #ifndef BOOK_H
 #define BOOK_H
 
