@@ -33,11 +33,11 @@ fn code_read_and_remainder_have_nothing_more() {
     assert_eq!(message[..], symbols("1000"));
     let mut remainder =
         |book: &[u8], word: &str| (packed::remainder(book, &symbols(word), &mut rest), rest);
-    assert_eq!(remainder(&books::a(), "1101001"), (0, [1, 0, 1]));
-    assert_eq!(remainder(&books::a(), "110100"), (9, [1, 0, 1]));
-    assert_eq!(remainder(&books::a(), "2101000"), (11, [1, 0, 1]));
-    assert_eq!(remainder(&books::a_with(8), "1101000"), (6, [1, 0, 1]));
-    assert_eq!(remainder(&books::b(), "111"), (10, [1, 0, 1]));
+    assert_eq!(remainder(&books::a(), "1101100"), (0, [0, 1, 1]));
+    assert_eq!(remainder(&books::a(), "110100"), (9, [0, 1, 1]));
+    assert_eq!(remainder(&books::a(), "2101000"), (11, [0, 1, 1]));
+    assert_eq!(remainder(&books::a_with(8), "1101000"), (6, [0, 1, 1]));
+    assert_eq!(remainder(&books::b(), "111"), (10, [0, 1, 1]));
     assert_eq!(remainder(&books::a(), "1101000"), (0, [0, 0, 0]));
 }
 
