@@ -1,7 +1,6 @@
 /*
- * Measures the library against the transcription (literal*.c) and the best C (fast.c, four times compiled): whole decodes, checks, rounds, growth and
- * remainders.
- * Every time is the least of many short runs, taken in turns, since the machine may be shared. First all must agree on every word.
+ * Measures the library against the transcription (literal.c) and the best C (fast.c, four times compiled): whole decodes, checks, rounds, growth and
+ * remainders. Every time is the least of many short runs, taken in turns, since the machine may be shared. First all must agree on every word.
  *
  *   bench BOOKS OUT                       writes OUT/table.txt, OUT/table.md, OUT/table.csv, OUT/growth.csv
  *   bench words BOOKS BOOK CLASS COUNT    the book and words of a class (clean, one), as decode_stream reads them

@@ -51,6 +51,7 @@ typedef struct {
     uint16_t scatter[SCATTER_ROWS * 64] ALIGNED;
     uint8_t h[64]; /* (x^n - 1) / g */
     uint64_t turns[64 * 4], stream[2][STREAM] ALIGNED; /* for p 1 and 2 */
+    uint64_t steps[64][6]; /* for p 4 to 6: what a step of the shift register subtracts, by the symbol that falls out */
 } Fast;
 
 INLINE Vec get(const void *at)
@@ -141,9 +142,9 @@ INLINE uint64_t plane(const uint8_t *word, int k)
     return bits;
 }
 
-/* What a step of the shift register subtracts: multiples of g less its leading coefficient, by the symbol that falls out. Up to p 3 only those by
- * powers of x, since the others are sums of a few. */
-INLINE void register_rows(const int p, const uint8_t *g, int d, uint64_t rows[64][6])
+/* What a step of the shift register subtracts: multiples of g less its leading coefficient. Up to p 3 only those by powers of x, of which the others
+ * are sums. */
+INLINE void register_rows(const int p, const uint8_t *g, int d, uint64_t (*rows)[6])
 {
     for (int i = 0; i < p; i++)
         rows[0][i] = 0;
@@ -160,7 +161,7 @@ INLINE void register_rows(const int p, const uint8_t *g, int d, uint64_t rows[64
 }
 
 /* A step of the shift register, p numbers whose top bits are the next coefficient of the quotient: that coefficient. */
-INLINE uint64_t register_step(const int p, uint64_t rows[64][6], uint64_t *state)
+INLINE uint64_t register_step(const int p, uint64_t (*rows)[6], uint64_t *state)
 {
     const int table = p > 3;
     uint64_t c = 0, add[6] = {0};
@@ -175,9 +176,9 @@ INLINE uint64_t register_step(const int p, uint64_t rows[64][6], uint64_t *state
 }
 
 /* h = (x^n - 1) / g. Says whether nothing is left. */
-INLINE int quotient_by(const int p, const uint8_t *g, int d, int k, uint8_t *h)
+INLINE int quotient_by(const int p, const uint8_t *g, int d, int k, uint8_t *h, uint64_t (*rows)[6])
 {
-    uint64_t rows[64][6], state[6] = {0}, left = 0;
+    uint64_t state[6] = {0}, left = 0;
     register_rows(p, g, d, rows);
     state[0] = (uint64_t)1 << 63;
     for (int i = k; i >= 0; i--)
@@ -188,15 +189,16 @@ INLINE int quotient_by(const int p, const uint8_t *g, int d, int k, uint8_t *h)
     return left == 0;
 }
 
-static int quotient(const Fast *f, const uint8_t *g, uint8_t *h)
+static int quotient(Fast *f, const uint8_t *g, uint8_t *h)
 {
+    uint64_t few[8][6];
     switch (f->p) {
-    case 1: return quotient_by(1, g, f->d, f->k, h);
-    case 2: return quotient_by(2, g, f->d, f->k, h);
-    case 3: return quotient_by(3, g, f->d, f->k, h);
-    case 4: return quotient_by(4, g, f->d, f->k, h);
-    case 5: return quotient_by(5, g, f->d, f->k, h);
-    default: return quotient_by(6, g, f->d, f->k, h);
+    case 1: return quotient_by(1, g, f->d, f->k, h, few);
+    case 2: return quotient_by(2, g, f->d, f->k, h, few);
+    case 3: return quotient_by(3, g, f->d, f->k, h, few);
+    case 4: return quotient_by(4, g, f->d, f->k, h, f->steps);
+    case 5: return quotient_by(5, g, f->d, f->k, h, f->steps);
+    default: return quotient_by(6, g, f->d, f->k, h, f->steps);
     }
 }
 
@@ -993,28 +995,30 @@ uint32_t FAST(check)(const uint8_t *book, size_t book_len)
     return accept(&f, book, book_len) ? 256u * (unsigned)f.duals : literal_check(book, book_len);
 }
 
-/* The word through the shift register: after k steps its top d bits are what is left. The bits of a number, a byte each, by a multiplication. */
-INLINE void divide_by(const int p, const Fast *f, const uint8_t *word, uint8_t *rest)
+/* The word through the shift register: after k steps its top d bits are what is left. Eight bits at a time become bytes by a multiplication. */
+INLINE void divide_by(const int p, const Fast *f, const uint8_t *word, uint64_t (*rows)[6], uint8_t *rest)
 {
-    uint64_t rows[64][6], state[6];
-    register_rows(p, f->book + AT_G, f->d, rows);
+    uint64_t state[6];
+    if (p <= 3)
+        register_rows(p, f->book + AT_G, f->d, rows);
     for (int a = 0; a < p; a++)
         state[a] = plane(word, a) << (64 - f->n);
     for (int i = 0; i < f->k; i++)
         register_step(p, rows, state);
-    for (int i = 0; i < 8; i++) {
+    for (int i = 0; i < f->d; i += 8) {
         uint64_t bytes = 0;
         for (int a = 0; a < p; a++) {
-            uint64_t bits = (state[a] >> (64 - f->d) >> 8 * i & 255) * 0x0101010101010101u & 0x8040201008040201u;
+            uint64_t bits = (state[a] >> (64 - f->d) >> i & 255) * 0x0101010101010101u & 0x8040201008040201u;
             bytes |= ((bits + 0x7f7f7f7f7f7f7f7fu) >> 7 & 0x0101010101010101u) << a;
         }
-        memcpy(rest + 8 * i, &bytes, 8);
+        memcpy(rest + i, &bytes, 8);
     }
 }
 
 uint32_t FAST(remainder)(const uint8_t *book, size_t book_len, const uint8_t *word, size_t word_len, uint8_t *remainder, size_t remainder_len)
 {
     Fast f;
+    uint64_t few[8][6];
     uint8_t padded[64] ALIGNED = {0}, rest[64];
     if (!accept(&f, book, book_len))
         return literal_check(book, book_len);
@@ -1025,12 +1029,12 @@ uint32_t FAST(remainder)(const uint8_t *book, size_t book_len, const uint8_t *wo
     if (take_word(&f, word, padded))
         return 11;
     switch (f.p) {
-    case 1: divide_by(1, &f, padded, rest); break;
-    case 2: divide_by(2, &f, padded, rest); break;
-    case 3: divide_by(3, &f, padded, rest); break;
-    case 4: divide_by(4, &f, padded, rest); break;
-    case 5: divide_by(5, &f, padded, rest); break;
-    default: divide_by(6, &f, padded, rest); break;
+    case 1: divide_by(1, &f, padded, few, rest); break;
+    case 2: divide_by(2, &f, padded, few, rest); break;
+    case 3: divide_by(3, &f, padded, few, rest); break;
+    case 4: divide_by(4, &f, padded, f.steps, rest); break;
+    case 5: divide_by(5, &f, padded, f.steps, rest); break;
+    default: divide_by(6, &f, padded, f.steps, rest); break;
     }
     memcpy(remainder, rest, remainder_len);
     return 0;

@@ -48,16 +48,22 @@ static int weight(const Book *c, const uint8_t *w)
     return count;
 }
 
-/* Whether the word, of `length` coefficients, leaves no remainder when it is divided by g. */
-static int divides(const Book *c, const uint8_t *word, int length)
+/* Divides the word, of `length` coefficients, by g; the remainder stands below the degree. */
+static void divide(const Book *c, const uint8_t *word, int length, uint8_t *rest)
 {
-    uint8_t rest[64];
     memcpy(rest, word, (size_t)length);
     for (int i = length - 1; i >= c->degree; i--) {
         uint8_t top = rest[i];
         for (int t = 0; t <= c->degree; t++)
             rest[i - c->degree + t] ^= product(c->p, top, c->g[t]);
     }
+}
+
+/* Whether there is no remainder. */
+static int divides(const Book *c, const uint8_t *word, int length)
+{
+    uint8_t rest[64];
+    divide(c, word, length, rest);
     for (int i = 0; i < c->degree && i < length; i++)
         if (rest[i])
             return 0;
@@ -241,4 +247,23 @@ uint32_t literal_decode(const uint8_t *book, size_t book_len, const uint8_t *rec
         if (received[j] >= c.q)
             return 11;
     return rounds(&c, received, answer);
+}
+
+uint32_t literal_remainder(const uint8_t *book, size_t book_len, const uint8_t *word, size_t word_len, uint8_t *remainder, size_t remainder_len)
+{
+    Book c;
+    uint8_t rest[64];
+    unsigned number = refusal(&c, book, book_len);
+    if (number)
+        return number;
+    if (word_len != (size_t)c.n)
+        return 9;
+    if (remainder_len != (size_t)c.degree)
+        return 10;
+    for (int j = 0; j < c.n; j++)
+        if (word[j] >= c.q)
+            return 11;
+    divide(&c, word, c.n, rest);
+    memcpy(remainder, rest, remainder_len);
+    return 0;
 }
