@@ -8,6 +8,7 @@
  *     and turning by h are one offset, and counting is a sum of rows of bytes;
  *   - for p 6 the counts are scattered instead, dividing again being an offset of rows in the order of logarithms;
  *   - "g divides" is asked of k or n - k places of one product, not by division;
+ *   - a remainder is left by a shift register whose cells stand in p numbers, a digit each;
  *   - dual words of p at most 3 are checked several to a byte.
  */
 #include "fast.h"

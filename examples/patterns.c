@@ -43,7 +43,7 @@ static int transmit(const struct book *book, unsigned number, struct received *t
         return 0;
     for (i = 0; i < PATTERNS; i++) {
         for (j = 0; j < book->n; j++)
-            word[j] = sent[j] ^ patterns[i][j];
+            word[j] = (uint8_t)(sent[j] ^ patterns[i][j]);
         to[i].pattern = i;
         if (shiftsum_remainder(book->bytes, book->len, word, book->n, to[i].remainder, book->n - book->k) != 0)
             return 0;
