@@ -123,8 +123,9 @@ uint32_t shiftsum_code(const uint8_t *book, size_t book_len, const uint8_t *mess
 uint32_t shiftsum_read(const uint8_t *book, size_t book_len, const uint8_t *word, size_t word_len, uint8_t *message, size_t message_len);
 
 /*
- * Divides a word by g: writes its remainder. Two words have one remainder exactly if they differ by a code word, so a damaged word has that of its
- * error pattern, whatever was sent, and received words can be sorted by pattern. It is zero for a code word and for no other word.
+ * Divides a word by g: writes its remainder. It is for sorting received words by error pattern: a damaged word has the remainder of its pattern,
+ * whichever code word was sent, since two words have the same remainder exactly if they differ by a code word. A code word has the remainder zero, and
+ * no other word has.
  *   word       n symbols, a code word or not
  *   remainder  n - k bytes, written, from x^0
  * Returns 0, or a refusal from 1 to 11.

@@ -61,7 +61,8 @@ impl Codebook {
         Ok(division)
     }
 
-    /// "A word is a code word where its remainder on division by g is zero."
+    /// "A word is a code word exactly if all n - k symbols of its remainder on
+    /// division by g are zero."
     pub fn is_code_word(&self, word: &[u8]) -> bool {
         self.division(word)
             .is_ok_and(|division| word::weight(&division.remainder) == 0)
