@@ -1,6 +1,6 @@
 -- What an accepted book gives to the code that reads it: words held in arrays, by the parameters that were read off it.
 -- Assumes nothing.
-use mathlib.Core.Path.{_≡_, refl, sym, ap, _∙_, fun-ext}
+use mathlib.Core.Path.{_≡_, refl, ap, _∙_, fun-ext}
 use mathlib.Core.List.{List}
 use Prim.Native.Nat.{ℕ, _+_, _*_, _%_, _^_, _≤_, _<_}
 use native.Mathlib.Nat.{mod-lt, mod-eq-of-lt, le-trans, mul-le-mul}
@@ -16,7 +16,6 @@ use Rattle.spec_field.specs.Symbols.{gf}
 use Rattle.spec_word.specs.Word.{at}
 use Rattle.spec_word.specs.Division.{coefficients, allZero, remainder}
 use Rattle.spec_word.specs.CyclicCode.{isCode}
-use Rattle.spec_word.proofs.Place.{at-lt}
 use Rattle.spec_word.proofs.Unique.{remainder-same}
 use Rattle.word_array.specs.Stored as S
 use Rattle.word_array.specs.Stored.{place, Stored}

@@ -10,7 +10,7 @@ use Rattle.spec_range.specs.Fold.{all}
 use Rattle.spec_range.specs.Table.{table}
 use Rattle.spec_word.specs.Word.{at}
 use Rattle.spec_word.proofs.Place.{at-lt}
-use Rattle.word_array.specs.Stored.{place, Stored}
+use Rattle.word_array.specs.Stored.{place}
 use Rattle.word_table.specs.Multiples.{wordOf}
 use Rattle.word_divide.specs.Window.{Remains}
 use Rattle.spec_book.specs.Book.{isCodeWord}

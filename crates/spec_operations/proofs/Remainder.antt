@@ -1,9 +1,8 @@
 -- The refusal number of remainder, and what holds of two calls of it, from what each answers and writes.
 -- Assumes nothing.
 use mathlib.Core.Path.{_≡_, sym, ap, ap₂, _∙_, subst}
-use mathlib.Core.Bool.{Bool}
 use mathlib.Core.List.{List}
-use Prim.Native.Nat.{ℕ, _<_}
+use Prim.Native.Nat.{ℕ}
 use lib.Dec.{T}
 use Rattle.spec_range.proofs.Tests.{eq→eqb}
 use Rattle.spec_field.specs.Field.{FieldOps, FieldLaws}

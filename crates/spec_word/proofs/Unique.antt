@@ -53,7 +53,7 @@ module _ (F : FieldOps) (laws : FieldLaws F) (n d : ℕ) (g : ℕ → ℕ) (G : 
 
   -- ---- equal remainders
 
-  pub length-remainder : (k : ℕ) (w : ℕ → ℕ) → length (remainder F d g k w) ≡ d
+  length-remainder : (k : ℕ) (w : ℕ → ℕ) → length (remainder F d g k w) ≡ d
   unfolding remainder
   length-remainder zero w = table-length d (λ i. 0)
   length-remainder (suc k) w = table-length d (reduce F d g (coefficients (remainder F d g k (λ j. w (suc j)))) (w 0))

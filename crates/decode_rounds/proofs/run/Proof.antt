@@ -3,8 +3,6 @@
 use mathlib.Core.Path.{sym, _∙_}
 use native.Mathlib.Omega.{arith}
 use borrow.Author.Needs.{needs}
-use Rattle.spec_book.specs.Layout.{width, fieldOf, bookOf}
-use Rattle.spec_decoding.specs.Matrix.{matrix}
 use Rattle.book.proofs.Described.{params-sizes, params-degree-sizes, degree-low, degree-high}
 use Rattle.matrix_terms.specs.Terms.{already}
 use Rattle.matrix.proofs.Whole.{listable}
