@@ -5,10 +5,8 @@ use mathlib.Core.List.{List}
 use Prim.Native.Nat.{ℕ, _+_, _*_, _%_, _^_, _≤_, _<_}
 use native.Mathlib.Nat.{mod-lt, mod-eq-of-lt, le-trans, mul-le-mul}
 use native.Mathlib.Omega.{arith}
-use lib.Dec.{eqb}
 use lib.ListN.{length}
 use lib.Pow.{pow-mono}
-use Rattle.spec_range.specs.Fold.{all}
 use Rattle.spec_range.specs.Table.{table, padded}
 use Rattle.spec_range.proofs.Table.{table-at}
 use Rattle.spec_field.specs.Field.{FieldOps}
@@ -128,6 +126,6 @@ module _ (bytes : List ℕ) (c : Params) (d : Describes bytes c) where
       remainder-tabulated i l = m .places i l ∙ ap (λ (R : List ℕ). coefficients R i) divided
 
       -- and the test that is made of it is the definition's for a code word
-      pub code-tabulated : all (c .degree) (λ i. eqb (place r i) 0) ≡ isCodeWord (fieldOf bytes) (bookOf width bytes) (at (bookOf width bytes .n) w)
+      pub code-tabulated : allZero (c .degree) r ≡ isCodeWord (fieldOf bytes) (bookOf width bytes) (at (bookOf width bytes .n) w)
       unfolding isCode
       code-tabulated = remains-test m ∙ ap (allZero (c .degree)) divided ∙ ap (λ (k : ℕ). allZero k R) (d .degree-is)

@@ -15,6 +15,7 @@ use Rattle.spec_range.proofs.Tests.{same-test, eq→eqb, and-left, and-right, a
 use Rattle.spec_range.proofs.Fold.{fold-cong, fold-swap, tests}
 use Rattle.spec_range.proofs.Table.{table-at, table-length}
 use Rattle.spec_range.proofs.Loop.{fold-none, fold-step, zero-at}
+use Rattle.spec_word.specs.Division.{allZero}
 use Rattle.word_array.specs.Stored.{place}
 
 or-zero : (a b : ℕ) → eqb (bitOr a b) 0 ≡ eqb a 0 && eqb b 0
@@ -72,7 +73,8 @@ module _ {n : ℕ} {f : ℕ → ℕ → ℕ} {l : ℕ} {left : List ℕ} (fits :
         }
 
   -- where all places are zero, so are all words
-  pub joined-end : {m : ℕ} → l ≡ m → all n (λ j. eqb (place left j) 0) ≡ all m (λ l. all n (λ j. eqb (f l j) 0))
+  pub joined-end : {m : ℕ} → l ≡ m → allZero n left ≡ all m (λ l. all n (λ j. eqb (f l j) 0))
+  unfolding allZero
   joined-end e =
       fold-cong _&&_ true n (λ j d. h .zeros j d ∙ ap (λ (m : ℕ). all m (λ l. eqb (f l j) 0)) e)
       ∙ fold-swap _&&_ true tests n _ (λ j l. eqb (f l j) 0)

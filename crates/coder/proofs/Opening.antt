@@ -1,10 +1,8 @@
 -- What an open book gives to the code that works with it: the refusal numbers by the parameters.
 -- Assumes nothing.
 use mathlib.Core.Path.{_≡_, sym, _∙_, subst}
-use mathlib.Core.Bool.{Bool, true, false, cond}
 use mathlib.Core.List.{List}
-use Prim.Native.Nat.{ℕ, _-_, _^_, _≤_, _<_}
-use native.Mathlib.Omega.{arith}
+use Prim.Native.Nat.{ℕ, _-_, _^_, _<_}
 use lib.Dec.{eqb, eqb→eq}
 use lib.ListN.{length}
 use Rattle.spec_book.specs.Conditions.{inputRefusal}
@@ -12,20 +10,11 @@ use Rattle.spec_book.proofs.Inputs.{accepted-input}
 use Rattle.spec_operations.specs.Coding.{codeInputRefusal, readInputRefusal}
 use Rattle.spec_operations.specs.Remainder.{remainderInputRefusal}
 use Rattle.word_array.specs.Stored.{place}
-use Rattle.book.specs.Opened.{fewSymbols, tableRoom, Opens, OpenBook}
+use Rattle.book.specs.Opened.{Opens, OpenBook}
 use Rattle.book.specs.declared.Opened.{Opened}
 use Rattle.book.specs.declared.Opened.the-variants.{Open}
 use Rattle.book.specs.declared.Params.{Params}
 use Rattle.book.proofs.Answering.{opens-open}
-
--- the largest room is enough for the table of every book
-pub room-high : (bytes : List ℕ) → tableRoom bytes ≤ 8192
-unfolding tableRoom
-room-high bytes = go (fewSymbols bytes)
-  where
-    go : (few : Bool) → cond few 1024 8192 ≤ 8192
-    go true = omega arith
-    go false = omega arith
 
 -- what opening a book answers and leaves, where it answers that the book is open
 pub opened : (bytes : List ℕ) (r : Opened) (t : List ℕ) → Opens bytes r t → {c : Params} → r ≡ Open c → OpenBook bytes c t

@@ -6,16 +6,14 @@ use mathlib.Core.List.{List}
 use Prim.Native.Nat.{ℕ, _+_, _-_, _≤_}
 use native.Mathlib.Nat.{le-of-eq}
 use native.Mathlib.Omega.{arith}
-use lib.Dec.{eqb}
 use lib.ListN.{length}
-use Rattle.spec_range.specs.Fold.{all}
 use Rattle.spec_range.specs.Table.{table, padded}
 use Rattle.spec_range.proofs.Table.{table-length, table-same}
 use Rattle.spec_range.proofs.Loop.{padded-same}
 use Rattle.spec_field.specs.Symbols.{gf}
 use Rattle.spec_field.proofs.Gf.{gf-laws}
 use Rattle.spec_word.specs.Word.{at}
-use Rattle.spec_word.specs.Division.{coefficients}
+use Rattle.spec_word.specs.Division.{coefficients, allZero}
 use Rattle.spec_word.proofs.Place.{at-lt}
 use Rattle.spec_word.proofs.Product.{product-cong}
 use Rattle.spec_word.proofs.Unique.{remainder-listed}
@@ -86,10 +84,10 @@ module _ {bytes : List ℕ} {c : Params} {t : List ℕ} (b : OpenBook bytes c t)
           (degree-low bytes c (b .describes)) h
 
       -- the test of the remainder's places
-      pub word-tested : {count : ℕ} {zero : Bool} → zero ≡ all count (λ j. eqb (place r j) 0) → count ≡ c .degree
+      pub word-tested : {count : ℕ} {zero : Bool} → zero ≡ allZero count r → count ≡ c .degree
           → zero ≡ isCodeWord (fieldOf bytes) (bookOf width bytes) (at (bookOf width bytes .n) word)
       word-tested e k =
-          e ∙ ap (λ (d : ℕ). all d (λ j. eqb (place r j) 0)) k
+          e ∙ ap (λ (d : ℕ). allZero d r) k
           ∙ code-tabulated bytes c (b .describes) (b .table-is) word (λ j l. refl) (divided .remains)
 
       pub word-read : {room : ℕ} {out : List ℕ} → room ≡ c .n - c .degree → out ≡ table room (place q) → out ≡ messageOf bytes word

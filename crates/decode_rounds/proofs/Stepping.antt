@@ -7,7 +7,6 @@ use Prim.Native.Nat.{ℕ, _*_, _^_, _<_}
 use lib.Bits.{bitXor}
 use lib.Dec.{eqb}
 use lib.ListN.{length}
-use Rattle.spec_range.specs.Fold.{all}
 use Rattle.spec_range.specs.Table.{padded}
 use Rattle.spec_range.proofs.Fold.{fold-cong}
 use Rattle.spec_range.proofs.Table.{table-same}
@@ -15,6 +14,7 @@ use Rattle.spec_range.proofs.Loop.{padded-at}
 use Rattle.spec_field.specs.Field.{FieldOps}
 use Rattle.spec_field.specs.Symbols.{gf}
 use Rattle.spec_word.specs.Word.{at}
+use Rattle.spec_word.specs.Division.{allZero}
 use Rattle.spec_word.proofs.Place.{at-lt}
 use Rattle.word_array.specs.Stored.{place, Stored}
 use Rattle.word_table.specs.Multiples.{wordOf}
@@ -78,12 +78,13 @@ module _ (bytes : List ℕ) (e : refusal width bytes ≡ 0) (make : (ℕ → ℕ
         corrected-at j l
         ∙ ap (λ (x : ℕ). bitXor x (correction F B (cell F B (made bytes make w)) j)) (sym (ap (λ (f : ℕ → ℕ). f j) (at-listed bytes e w) ∙ at-lt (B .n) w l)))
 
-    pub corrected-empty : all (B .n) (λ j. eqb (place v j) 0) ≡ emptyUpdateSet F B (cell F B (made bytes make w))
+    pub corrected-empty : allZero (B .n) v ≡ emptyUpdateSet F B (cell F B (made bytes make w))
+    unfolding allZero
     corrected-empty =
         fold-cong _&&_ true (B .n) (λ j l. ap (λ (x : ℕ). eqb x 0) (correction-at j l)) ∙ sym (empty-zero F (book-laws bytes e) B (cell F B (made bytes make w)))
 
     -- what comes of the round, by its two tests
-    pub stepped : {s : Step} (empty reached : Bool) → s ≡ stepOf empty reached → all (B .n) (λ j. eqb (place v j) 0) ≡ empty
+    pub stepped : {s : Step} (empty reached : Bool) → s ≡ stepOf empty reached → allZero (B .n) v ≡ empty
         → isCodeWord F B (at (B .n) w′) ≡ reached → Stepped bytes make w (record { step = s; word = w′ }) m
     stepped empty reached h p q =
         record {
@@ -114,14 +115,13 @@ module _ (bytes : List ℕ) (make : (ℕ → ℕ) → List ℕ) (c : Params) (w 
   round-stored = corrected-stored bytes (d .accepted) make w word m v w′ made-matrix made-corrections made-word
 
   -- the update set is empty
-  pub round-empty : {s : Step} → s ≡ Empty → all (c .n) (λ j. eqb (place v j) 0) ≡ true → Stepped bytes make w (record { step = s; word = w′ }) m
+  pub round-empty : {s : Step} → s ≡ Empty → allZero (c .n) v ≡ true → Stepped bytes make w (record { step = s; word = w′ }) m
   round-empty s p =
       stepped bytes (d .accepted) make w word m v w′ made-matrix made-corrections made-word true _ s (rw (d .n-is) at p) refl
 
   -- it is not, and the new word was divided
   pub round-divided : {t rest : List ℕ} → Tabulated bytes (c .p) (c .n) t → Remains (c .p) (c .n) (c .degree) (wordOf 128 (c .n) t) (place w′) rest
-      → {s : Step} (reached : Bool) → s ≡ stepOf false reached → all (c .n) (λ j. eqb (place v j) 0) ≡ false
-      → all (c .degree) (λ i. eqb (place rest i) 0) ≡ reached → Stepped bytes make w (record { step = s; word = w′ }) m
-  round-divided ht h reached s p q =
-      stepped bytes (d .accepted) make w word m v w′ made-matrix made-corrections made-word false reached s
-      (rw (d .n-is) at p) (sym (code-tabulated bytes c d ht w′ (λ j l. sym (at-lt (c .n) w′ l)) h) ∙ q)
+      → {s : Step} → s ≡ stepOf false (allZero (c .degree) rest) → allZero (c .n) v ≡ false → Stepped bytes make w (record { step = s; word = w′ }) m
+  round-divided ht h s p =
+      stepped bytes (d .accepted) make w word m v w′ made-matrix made-corrections made-word false _ s
+      (rw (d .n-is) at p) (sym (code-tabulated bytes c d ht w′ (λ j l. sym (at-lt (c .n) w′ l)) h))

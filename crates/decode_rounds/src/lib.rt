@@ -1,5 +1,6 @@
 // The rounds of the decoder. A word is held by value; the matrix is a lent buffer. Nothing is read of the book once its terms are listed.
 ghost use mathlib.Core.Path.{_≡_};
+ghost use mathlib.Core.Bool.{false};
 ghost use mathlib.Core.List.{List};
 ghost use Prim.Native.Nat.{ℕ, _*_, _^_};
 ghost use lib.ListN.{length};
@@ -8,7 +9,7 @@ ghost use Rattle.spec_decoding.specs.Matrix.{matrix};
 ghost use Rattle.spec_decoding.specs.Decode.{decode};
 ghost use Rattle.word_array.specs.Stored.{Stored};
 ghost use Rattle.book.specs.Params.{Tabulated, Describes};
-ghost use Rattle.decode_rounds.specs.Rounds.{listed, allRounds, Prepared, TermsRoom, Ready, Stepped, Ended};
+ghost use Rattle.decode_rounds.specs.Rounds.{stepOf, listed, allRounds, Prepared, TermsRoom, Ready, Stepped, Ended};
 use book::Params;
 use sizes::Word;
 
@@ -40,6 +41,16 @@ pub struct End {
     pub word: Word,
 }
 
+// What comes of a round that changed the word: a remainder of zero tells a code word.
+fn changed(zero: bool) -> Step
+    ensures { λ r. ⌜ r ≡ stepOf false zero ⌝ }
+{
+    if zero {
+        return Step::Reached;
+    }
+    Step::Going
+}
+
 // One round: makes the matrix and the update set, subtracts, and divides: a code word leaves the remainder zero.
 fn round(c: Params, t: &[u8], terms: &[u16], w: Word, m: &mut [u16]) -> Rounded
     requires { ⌜ Ready c (now t) (now terms) w (now m) ⌝ }
@@ -57,16 +68,8 @@ fn round(c: Params, t: &[u8], terms: &[u16], w: Word, m: &mut [u16]) -> Rounded
         };
     }
     let rest = word_divide::remainder(c.p, n, c.degree, t, next);
-    if word_array::is_zero(c.degree, &rest) {
-        return Rounded {
-            step: Step::Reached,
-            word: next,
-        };
-    }
-    Rounded {
-        step: Step::Going,
-        word: next,
-    }
+    let step = changed(word_array::is_zero(c.degree, &rest));
+    Rounded { step, word: next }
 }
 
 // The rounds for a received word that is not a code word.

@@ -26,7 +26,7 @@ use Rattle.spec_book.specs.Layout.{width, fieldOf, bookOf}
 use Rattle.spec_book.specs.Conditions.{unless, refusal, codeWordRefusal}
 use Rattle.spec_book.proofs.Sound.{passed}
 use Rattle.spec_book.proofs.Known.{book-laws, book-accepted}
-use Rattle.spec_book.proofs.Inputs.{AcceptedInput, accepted-input, input-accepted}
+use Rattle.spec_book.proofs.Inputs.{AcceptedInput, accepted-input, input-accepted, word-input}
 use Rattle.spec_coding.specs.Coder.{encode, message}
 use Rattle.spec_coding.proofs.Coder.{encode-code, message-encode, encode-message}
 use Rattle.spec_operations.specs.Wrote.{Wrote}
@@ -82,13 +82,10 @@ input-symbols F laws {input = input} h j = go (decLt j (length input))
     go (no l) = subst (λ (x : ℕ). x < F .q) (sym (List·getD-eq-default input 0 (omega arith))) (zero-below F laws)
 
 -- a table of symbols as an input
-table-input : (q n : ℕ) (f : ℕ → ℕ) {exact : Bool} → T exact → ((j : ℕ) → f j < q) → AcceptedInput q (eqb (length (table n f)) n) exact (table n f)
-table-input q n f t h =
-    record {
-      size = eq→eqb (table-length n f);
-      sizes = t;
-      symbol = λ j l. subst (λ (x : ℕ). x < q) (sym (table-at n f (subst (λ (k : ℕ). j < k) (table-length n f) l))) (h j);
-    }
+table-input : (F : FieldOps) (n : ℕ) (f : ℕ → ℕ) {exact : Bool} → T exact → ((j : ℕ) → f j < F .q)
+    → AcceptedInput (F .q) (eqb (length (table n f)) n) exact (table n f)
+table-input F n f t h =
+    word-input {F = F} (record { size = table-length n f; symbol = λ j l. subst (λ (x : ℕ). x < F .q) (sym (table-at n f l)) (h j) }) t
 
 -- the quotient's coefficients are symbols
 quotient-below : (F : FieldOps) → FieldLaws F → (d : ℕ) (g : ℕ → ℕ) (k : ℕ) (w : ℕ → ℕ) → Symbols F w → Symbols F (quotientAt F d g k w)
@@ -137,7 +134,7 @@ module _ (bytes : List ℕ) where
     coded-accepted back e =
         ap₂ orElse ok
         (ap₂ orElse
-        (input-accepted (table-input (F .q) (B .n) (product F (B .n) (coefficients f) (λ j. B .generator (j % B .n))) (eq→eqb e)
+        (input-accepted (table-input F (B .n) (product F (B .n) (coefficients f) (λ j. B .generator (j % B .n))) (eq→eqb e)
         (product-below F (book-laws bytes ok) (B .n) (coefficients f) (λ j. B .generator (j % B .n)))))
         (cond-true (isCodeWord F B (at (B .n) (coded bytes f))) 0 12 (encode-code F (book-laws bytes ok) B (book-accepted bytes ok) f size symbols)))
 
@@ -157,7 +154,7 @@ module _ (bytes : List ℕ) where
     pub message-accepted : (back : ℕ) → back ≡ B .n → codeRefusal bytes (messageOf bytes w) back ≡ 0
     unfolding codeRefusal codeInputRefusal message
     message-accepted back e =
-        ap₂ orElse sound (input-accepted (table-input (F .q) (messageLength B) (coefficients Q) (eq→eqb e) (λ j.
+        ap₂ orElse sound (input-accepted (table-input F (messageLength B) (coefficients Q) (eq→eqb e) (λ j.
         subst (λ (x : ℕ). x < F .q) (sym (quotient-at F (B .degree) (B .generator) laws pos (B .n) (at (B .n) w) j))
         (quotient-below F laws (B .degree) (B .generator) (B .n) (at (B .n) w) places j))))
       where

@@ -2,11 +2,10 @@
 ghost use mathlib.Core.Path.{_≡_};
 ghost use Prim.Native.Nat.{_+_, _≤_};
 ghost use lib.Bits.{bitXor};
-ghost use lib.Dec.{eqb};
 ghost use lib.ListN.{length};
-ghost use Rattle.spec_range.specs.Fold.{all};
 ghost use Rattle.spec_range.specs.Table.{table, padded};
 ghost use Rattle.spec_word.specs.Word.{distance};
+ghost use Rattle.spec_word.specs.Division.{allZero};
 ghost use Rattle.word_array.specs.Stored.{place};
 use sizes::WIDTH;
 use sizes::Word;
@@ -55,7 +54,7 @@ pub fn add(n: usize, a: Word, b: Word) -> Word
 // Whether the places below n are all zero: those that are not are counted, with no branch.
 pub fn is_zero(n: usize, w: &[u8]) -> bool
     requires { ⌜ (n ≤ 128) × (n ≤ length (now w)) ⌝ }
-    ensures { λ r. ⌜ r ≡ all n (λ j. eqb (place (now (w .entry)) j) 0) ⌝ }
+    ensures { λ r. ⌜ r ≡ allZero n (now (w .entry)) ⌝ }
 {
     let mut found: u8 = 0;
     let mut j = 0;

@@ -6,7 +6,7 @@ use mathlib.Core.Bool.{Bool, true, false, cond, _&&_, _||_}
 use mathlib.Core.Logic.{_≢_, ⊎-elim}
 use mathlib.Core.List.{List}
 use Prim.Native.Nat.{ℕ, zero, suc, pred, _+_, _-_, _*_, _^_, _≤_, _<_, zero-le}
-use native.Mathlib.Nat.{not-suc-le-zero, le-refl, lt-irrefl, le-of-suc-le-suc, eq-or-lt-of-le}
+use native.Mathlib.Nat.{not-suc-le-zero, le-refl, le-trans, lt-irrefl, le-of-suc-le-suc, eq-or-lt-of-le}
 use native.Mathlib.Numerals.{add-one}
 use native.Mathlib.Decide.{decLt, ℕ-discrete}
 use native.Mathlib.Omega.{arith}
@@ -15,10 +15,9 @@ use lib.Bits.{bitXor}
 use lib.Dec.{eqb}
 use lib.ListN.{length, set, replicate, length-set, length-replicate}
 use lib.Seq.{getD-set-same, getD-set-other}
-use Rattle.spec_range.specs.Fold.{all}
 use Rattle.spec_range.specs.Table.{padded}
 use Rattle.spec_range.proofs.Fold.{fold-cong}
-use Rattle.spec_range.proofs.Loop.{held-padded, zero-at}
+use Rattle.spec_range.proofs.Loop.{held-padded, padded-length, zero-at}
 use Rattle.spec_field.specs.Field.{FieldOps, FieldLaws}
 use Rattle.spec_field.specs.Symbols.{gf}
 use Rattle.spec_field.specs.Symbols as symbols
@@ -30,9 +29,30 @@ use Rattle.spec_word.proofs.Division.{remainderAt, remainder-at, remainder-cong
 use Rattle.spec_word.proofs.Quotient.{prefix-below, quotientAt, quotient-at, quotient-cong, times, times-extend, division, quotient-above}
 use Rattle.word_array.specs.Stored.{place, Sizes, Stored}
 use Rattle.word_array.proofs.Filled.{read-padded}
-use Rattle.word_table.specs.Multiples.{entry, wordOf}
+use Rattle.word_table.specs.Multiples.{entry, wordOf, Multiples}
 use Rattle.word_table.proofs.Rows.{rows-apart}
 use Rattle.word_divide.specs.Window.{Dividend, AddedAt, Remains, DividedBy}
+
+-- ---- what the division asks, of an array that holds a word
+
+module _ {p size k : ℕ} {w : ℕ → ℕ} {v : List ℕ} (e : v ≡ padded size k w) (l : k ≤ size) where
+  pub padded-stored : ((j : ℕ) → j < k → w j < 2 ^ p) → Stored p k v
+  padded-stored h = record { symbol = λ j b. subst (λ (x : ℕ). x < 2 ^ p) (sym (read-padded w e l b)) (h j b) }
+
+pub dividend : {stride span p n d k : ℕ} {t v : List ℕ} {w : ℕ → ℕ} → Sizes p n → 1 ≤ d → d < n → d ≤ k → k ≤ span → span ≤ stride
+    → v ≡ padded stride k w → ((j : ℕ) → j < k → w j < 2 ^ p) → Multiples stride p n t → Dividend stride span p n d k t v
+dividend {w = w} sizes pos high low fits wide e symbol multiples =
+    record {
+      sizes = sizes;
+      degree-pos = pos;
+      degree-lt = high;
+      k-low = low;
+      k-high = fits;
+      span-high = wide;
+      symbols = padded-stored e (le-trans fits wide) symbol;
+      multiples = multiples;
+      long = ap length e ∙ padded-length _ _ _;
+    }
 
 -- ---- a row added from place i on
 
@@ -215,9 +235,6 @@ module _ {stride span p n d k : ℕ} {t v₀ : List ℕ} (ok : Dividend stride s
 -- ---- an array that holds a word, and what is left of it
 
 module _ {p size k : ℕ} {w : ℕ → ℕ} {v : List ℕ} (e : v ≡ padded size k w) (l : k ≤ size) where
-  pub padded-stored : ((j : ℕ) → j < k → w j < 2 ^ p) → Stored p k v
-  padded-stored h = record { symbol = λ j b. subst (λ (x : ℕ). x < 2 ^ p) (sym (read-padded w e l b)) (h j b) }
-
   pub padded-divided : {stride span n d : ℕ} {g : ℕ → ℕ} {q r : List ℕ} → Sizes p n → 1 ≤ d → DividedBy stride span p k d g (place v) q r
       → DividedBy stride span p k d g w q r
   padded-divided {d = d} {g} sizes pos h =
@@ -237,7 +254,7 @@ module _ {p size k : ℕ} {w : ℕ → ℕ} {v : List ℕ} (e : v ≡ padded siz
       }
 
 -- the test that is made of it is the definition's of the remainder
-pub remains-test : {p k d : ℕ} {g w : ℕ → ℕ} {r : List ℕ} → Remains p k d g w r → all d (λ j. eqb (place r j) 0) ≡ allZero d (remainder (gf p) d g k w)
+pub remains-test : {p k d : ℕ} {g w : ℕ → ℕ} {r : List ℕ} → Remains p k d g w r → allZero d r ≡ allZero d (remainder (gf p) d g k w)
 unfolding allZero
 remains-test {d = d} h = fold-cong _&&_ true d (λ j l. ap (λ (x : ℕ). eqb x 0) (h .places j l))
 
@@ -285,6 +302,6 @@ unity-padded size n pos l =
     value k (no a) (no z) = other k a z ∙ sym (ap₂ (λ (a b : Bool). cond (a || b) 1 0) (ne-eqb k 0 z) (ne-eqb k n a))
 
 pub unity-test : (n : ℕ) {p d : ℕ} {g : ℕ → ℕ} {r : List ℕ} → Remains p (n + 1) d g (unity n) r
-    → all d (λ j. eqb (place r j) 0) ≡ divides (gf p) d g (suc n) (unity n)
+    → allZero d r ≡ divides (gf p) d g (suc n) (unity n)
 unfolding divides
 unity-test n {p} {d} {g} h = remains-test h ∙ ap (λ (k : ℕ). allZero d (remainder (gf p) d g k (unity n))) (add-one n)

@@ -1,12 +1,12 @@
 -- `coder::code` meets its contract.
 -- Assumes nothing.
 use mathlib.Core.Path.{refl}
-use native.Mathlib.Nat.{le-trans, le-of-eq}
 use native.Mathlib.Omega.{arith}
 use Rattle.spec_operations.proofs.Wrote.{wrote-refused}
 use Rattle.spec_operations.proofs.Coding.{code-refused, code-goes-on}
 use Rattle.book.proofs.Answering.{opens-refused}
-use Rattle.coder.proofs.Opening.{room-high, opened}
+use Rattle.book.proofs.Rooms.{any-room}
+use Rattle.coder.proofs.Opening.{opened}
 use borrow.Author.Needs.{needs}
 use Rattle.coder.proofs.code.Statement.{statement}
 use Rattle.coder.proofs.code.Tie as tie
@@ -18,7 +18,7 @@ slice-aggregate-open : tie.Need-slice-aggregate-open
 slice-aggregate-open c = search needs
 
 open-requires : tie.Need-open-requires
-open-requires c κs = le-trans (room-high _) (le-of-eq (c .before .table-room .ensures))
+open-requires c κs = any-room _ (c .before .table-room .ensures)
 
 enum-known-opened : tie.Need-enum-known-opened
 enum-known-opened c = search needs

@@ -1,7 +1,7 @@
 -- `decode_rounds::round` meets its contract, whichever bytes hold the opened book.
 -- Assumes nothing.
 use mathlib.Core.Path.{refl, sym, ap, _∙_}
-use mathlib.Core.Bool.{true, false}
+use mathlib.Core.Bool.{false}
 use borrow.Author.Needs.{needs}
 use native.Mathlib.Omega.{arith}
 use lib.ListN.{length}
@@ -11,6 +11,7 @@ use Rattle.spec_decoding.specs.Matrix.{matrix}
 use Rattle.spec_decoding.proofs.Matrix.{matrix-length}
 use Rattle.book.proofs.Described.{params-sizes, params-degree-sizes, params-stored, params-matrix, degree-low, degree-high}
 use Rattle.matrix.proofs.Whole.{whole-steps}
+use Rattle.decode_rounds.specs.Rounds.{stepOf}
 use Rattle.decode_rounds.proofs.Stepping.{params-fillable, prepared-filling, round-stored, round-empty, round-divided}
 use Rattle.decode_rounds.proofs.round.Statement.{statement}
 use Rattle.decode_rounds.proofs.round.Tie as tie
@@ -80,6 +81,9 @@ is-zero-requires-2 c κs =
     let degree = params-degree-sizes _ _ (c .before .before .before .before .before .before .before .before .before .before .before .before .before .before .before .pre .prepared .describes) .n-high in
     (omega (arith, degree), omega (arith, degree, c .before .remainder .ensures .1))
 
+changed-requires : tie.Need-changed-requires
+changed-requires c κs = search needs
+
 same-length-2 : tie.Need-same-length-2
 same-length-2 c = search needs
 
@@ -91,22 +95,8 @@ returns-2 c bytes h =
     let fill = add .before .before .before .before .before in
     let d = h .describes in
     round-divided bytes _ _ _ d (fill .before .before .before .before .before .pre .word) _ _ _ (fill .fill .ensures _ (params-fillable _ _ d) (h .terms-are))
-    (add .before .corrections .ensures) (add .add .ensures) (h .table-is) (divided .remainder .ensures .0) true refl
-    (sym (tested .before .is-zero .ensures) ∙ tested .if1 .left) (sym (c .before .is-zero2 .ensures) ∙ c .if2 .taken)
-
-same-length-3 : tie.Need-same-length-3
-same-length-3 c = search needs
-
-returns-3 : tie.Need-returns-3
-returns-3 c bytes h =
-    let divided = c .before .before .before in
-    let tested = divided .before in
-    let add = tested .before .before .before in
-    let fill = add .before .before .before .before .before in
-    let d = h .describes in
-    round-divided bytes _ _ _ d (fill .before .before .before .before .before .pre .word) _ _ _ (fill .fill .ensures _ (params-fillable _ _ d) (h .terms-are))
-    (add .before .corrections .ensures) (add .add .ensures) (h .table-is) (divided .remainder .ensures .0) false refl
-    (sym (tested .before .is-zero .ensures) ∙ tested .if1 .left) (sym (c .before .is-zero2 .ensures) ∙ c .if2 .left)
+    (add .before .corrections .ensures) (add .add .ensures) (h .table-is) (divided .remainder .ensures .0)
+    (c .changed .ensures ∙ ap (stepOf false) (c .before .is-zero2 .ensures)) (sym (tested .before .is-zero .ensures) ∙ tested .if1 .left)
 
 pub round-spec : {M : Type 1} → statement M
 round-spec =
@@ -122,7 +112,6 @@ round-spec =
     remainder-requires
     slice-aggregate-is-zero-2
     is-zero-requires-2
+    changed-requires
     same-length-2
-    returns-2
-    same-length-3
-    returns-3)
+    returns-2)

@@ -8,6 +8,7 @@ use lib.Dec.{eqb}
 use Rattle.spec_range.proofs.Fold.{fold-cong}
 use Rattle.spec_range.proofs.Count.{none-counted}
 use Rattle.spec_word.specs.Word.{nonzero}
+use Rattle.spec_word.specs.Division.{allZero}
 use Rattle.word_array.specs.Stored.{place}
 use Rattle.word_array.proofs.Counted.{Counted, counted-none, counted-more, counted-byte, counted-end}
 use borrow.Author.Needs.{needs}
@@ -48,6 +49,7 @@ twice true = refl
 twice false = refl
 
 returns : tie.Need-returns Inv-loop μ-loop
+unfolding allZero
 returns c =
     let s = c .before .before .args in
     ap (λ (x : ℕ). eqb x 0) (counted-end (c .before .loop .inv) (omega arith) .0)

@@ -1,9 +1,6 @@
 -- `word_divide::divide` meets its contract.
 -- Assumes nothing.
-use mathlib.Core.Path.{ap, _∙_}
-use lib.ListN.{length}
-use Rattle.spec_range.proofs.Loop.{padded-length}
-use Rattle.word_divide.proofs.Dividing.{padded-stored, padded-divided}
+use Rattle.word_divide.proofs.Dividing.{dividend, padded-divided}
 use borrow.Author.Needs.{needs}
 use Rattle.word_divide.proofs.divide.Statement.{statement}
 use Rattle.word_divide.proofs.divide.Tie as tie
@@ -18,17 +15,7 @@ divide-in-requires : tie.Need-divide-in-requires
 divide-in-requires c κs =
     let pre = c .before .before .before .before .pre in
     let e = c .before .extended .ensures in
-    record {
-      sizes = pre .0;
-      degree-pos = pre .1;
-      degree-lt = pre .2;
-      k-low = search needs;
-      k-high = search needs;
-      span-high = search needs;
-      symbols = padded-stored e (search needs) (pre .3 .symbol);
-      multiples = pre .4;
-      long = ap length e ∙ padded-length _ _ _;
-    }
+    dividend (pre .0) (pre .1) (pre .2) (search needs) (search needs) (search needs) e (pre .3 .symbol) (pre .4)
 
 returns : tie.Need-returns
 returns c =

@@ -1,10 +1,8 @@
 -- `word_divide::divides_unity` meets its contract.
 -- Assumes nothing.
-use mathlib.Core.Path.{sym, ap, _∙_}
+use mathlib.Core.Path.{sym, _∙_}
 use native.Mathlib.Nat.{le-trans, le-of-eq}
-use lib.ListN.{length}
-use Rattle.spec_range.proofs.Loop.{padded-length}
-use Rattle.word_divide.proofs.Dividing.{padded-stored, padded-divided, unity-symbol, unity-test}
+use Rattle.word_divide.proofs.Dividing.{dividend, padded-divided, unity-symbol, unity-test}
 use borrow.Author.Needs.{needs}
 use Rattle.word_divide.proofs.divides_unity.Statement.{statement}
 use Rattle.word_divide.proofs.divides_unity.Tie as tie
@@ -19,17 +17,7 @@ divide-in-requires : tie.Need-divide-in-requires
 divide-in-requires c κs =
     let pre = c .before .before .before .pre in
     let e = c .before .unity .ensures in
-    record {
-      sizes = pre .0;
-      degree-pos = pre .1;
-      degree-lt = pre .2;
-      k-low = search needs;
-      k-high = search needs;
-      span-high = search needs;
-      symbols = padded-stored e (search needs) (λ j l. unity-symbol (pre .0) j);
-      multiples = pre .3;
-      long = ap length e ∙ padded-length _ _ _;
-    }
+    dividend (pre .0) (pre .1) (pre .2) (search needs) (search needs) (search needs) e (λ j l. unity-symbol (pre .0) j) (pre .3)
 
 slice-aggregate-is-zero : tie.Need-slice-aggregate-is-zero
 slice-aggregate-is-zero c = sym (c .before .divide-in .ensures .long)
