@@ -4,8 +4,7 @@ use mathlib.Core.Path.{_≡_, refl, sym, ap, ap₂, _∙_}
 use mathlib.Core.List.{List, [], _∷_, _++_, append-assoc, append-nil}
 use Prim.Native.Nat.{ℕ, suc, _+_, _≤_, _<_}
 use native.Mathlib.Omega.{arith}
-use lib.ListN.{length, take, drop, length-append}
-use lib.Seq.{take-add}
+use lib.ListN.{length, length-append}
 use Rattle.spec_program.specs.Line.{refusalLine}
 use Rattle.spec_program.specs.Output.{pieceLine}
 use Rattle.spec_program.specs.Machine.{State, opening, answering, ended, stepIn, textIn, finishIn, stepByte, byteText, steps, stepsText, finishText}
@@ -23,14 +22,6 @@ steps-text-join s [] b = refl
 steps-text-join s (x ∷ a) b =
     let s′ = stepByte s x in
     ap (λ (t : List ℕ). byteText s x ++ t) (steps-text-join s′ a b) ∙ sym (append-assoc (byteText s x) (stepsText s′ a) (stepsText (steps s′ a) b))
-
--- `size` bytes more of a piece, of which those before `at` are stepped
-pub steps-take : (s : State) (at size : ℕ) (piece : List ℕ) → steps s (take (at + size) piece) ≡ steps (steps s (take at piece)) (take size (drop at piece))
-steps-take s at size piece = ap (steps s) (take-add at size piece) ∙ steps-join s (take at piece) (take size (drop at piece))
-
-pub steps-text-take : (s : State) (at size : ℕ) (piece : List ℕ)
-    → stepsText s (take (at + size) piece) ≡ stepsText s (take at piece) ++ stepsText (steps s (take at piece)) (take size (drop at piece))
-steps-text-take s at size piece = ap (stepsText s) (take-add at size piece) ∙ steps-text-join s (take at piece) (take size (drop at piece))
 
 -- the text of a piece that is the last
 abbrev pub lastText : State → List ℕ → List ℕ

@@ -1,5 +1,4 @@
 pub mod Blocks
-pub mod Opened
 pub mod Joining
 pub mod Opening
 pub mod Answering

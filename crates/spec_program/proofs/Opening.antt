@@ -4,11 +4,11 @@ use mathlib.Core.Path.{_≡_, refl, sym, ap, ap₂, _∙_}
 use mathlib.Core.List.{List, [], _∷_, _++_}
 use Prim.Native.Nat.{ℕ, zero, suc, _+_, _≤_, _<_}
 use borrow.Author.Tests.{lt-ltb, le-ltb}
-use native.Mathlib.Omega.{arith}
-use lib.ListN.{length, length-append}
+use lib.ListN.{length}
 use Rattle.spec_book.specs.Layout.{width}
 use Rattle.spec_book.specs.Conditions.{refusal}
-use Rattle.spec_program.specs.Output.{bookLength}
+use Rattle.spec_program.specs.Line.{refusalLine}
+use Rattle.spec_program.specs.Output.{bookLength, openingText}
 use Rattle.spec_program.specs.Machine.{State, Phase, opening, ended, Verdict, coming, judged, verdict, verdictPhase, verdictText, opened, fieldWith}
 use Rattle.spec_program.specs.Machine.{bookWith, stepIn, textIn, stepByte, byteText, steps, stepsText}
 use Rattle.spec_program.proofs.Joining.{steps-part, steps-text-part}
@@ -32,7 +32,11 @@ module _ (field book : List ℕ) (whole : 2 ≤ length field) where
   unfolding verdict
   verdict-whole-book h l = rw (le-ltb (length field) 2 whole, le-ltb 2118 (bookLength field) h, le-ltb (length book) (bookLength field) l)
 
--- a refused book ends the run
+-- a refused book prints its line and ends the run
+pub opening-line : (number : ℕ) → (number ≡ 0 → ⊥) → openingText number ≡ refusalLine number
+opening-line zero h = absurd (h refl)
+opening-line (suc number) h = refl
+
 pub refused-phase : (number : ℕ) → (number ≡ 0 → ⊥) → verdictPhase (judged number) ≡ ended
 refused-phase zero h = absurd (h refl)
 refused-phase (suc number) h = refl
@@ -134,17 +138,6 @@ module _ (s : State) (a : List ℕ) (p : s .phase ≡ opening) (short : length (
       steps-text-grown s 2 (λ f. f) (λ f. s .book) field-waits (λ f x h. field-joins s f (s .book) x h) (λ f x h. book-waits s f (s .book) x h)
       (s .field) a field-begins short fits
 
--- one that does not complete the field only joins it
-module _ (s : State) (a : List ℕ) (p : s .phase ≡ opening) (h : length (s .field) + length a < 2) where
-  field-coming : verdict (s .field ++ a) (s .book) ≡ coming
-  field-coming = verdict-short-field (s .field ++ a) (s .book) (omega (arith, length-append (s .field) a))
-
-  pub steps-short-field : steps s a ≡ record { field = s .field ++ a; book = s .book; count = s .count; begun = s .begun; phase = opening }
-  steps-short-field = steps-field s a p (omega arith) (omega arith) ∙ opened-is s (s .field ++ a) (s .book) field-coming
-
-  pub steps-text-short-field : stepsText s a ≡ []
-  steps-text-short-field = steps-text-field s a p (omega arith) (omega arith) ∙ ap verdictText field-coming
-
 -- ---- a piece of the book
 
 module _ (s : State) (a : List ℕ) (p : s .phase ≡ opening) (whole : 2 ≤ length (s .field)) (sized : bookLength (s .field) ≤ 2118) where
@@ -164,14 +157,3 @@ module _ (s : State) (a : List ℕ) (p : s .phase ≡ opening) (whole : 2 ≤ le
     steps-text-book =
         steps-text-grown s (bookLength (s .field)) (λ b. s .field) (λ b. b) coming-book (λ b x h. field-stays s (s .field) b x whole)
         (λ b x h. book-joins s (s .field) b x whole) (s .book) a book-begins short fits
-
-  -- one that does not complete the book only joins it
-  module _ (h : length (s .book) + length a < bookLength (s .field)) where
-    book-coming : verdict (s .field) (s .book ++ a) ≡ coming
-    book-coming = verdict-short-book (s .field) (s .book ++ a) whole sized (omega (arith, length-append (s .book) a))
-
-    pub steps-short-book : steps s a ≡ record { field = s .field; book = s .book ++ a; count = s .count; begun = s .begun; phase = opening }
-    steps-short-book = steps-book (omega arith) (omega arith) ∙ opened-is s (s .field) (s .book ++ a) book-coming
-
-    pub steps-text-short-book : stepsText s a ≡ []
-    steps-text-short-book = steps-text-book (omega arith) (omega arith) ∙ ap verdictText book-coming

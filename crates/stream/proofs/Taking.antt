@@ -9,8 +9,7 @@ use lib.ListN.{length, take, drop, length-drop}
 use lib.Seq.{length-take-le, take-all, take-add}
 use Rattle.spec_book.proofs.Known.{n-pos}
 use Rattle.spec_program.specs.Machine.{verdict, verdictText, opened, steps, stepsText}
-use Rattle.spec_program.proofs.Opening.{refused-phase, opened-is}
-use Rattle.spec_program.proofs.Opened.{opening-line}
+use Rattle.spec_program.proofs.Opening.{opening-line, refused-phase, opened-is}
 use Rattle.book.specs.declared.Params.{Params}
 use Rattle.stream_text.specs.Printed.{Printed}
 use Rattle.word_array.specs.Stored.{place}
