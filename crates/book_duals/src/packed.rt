@@ -1,7 +1,7 @@
 // The products with the generator, p at most 3, with 8 / p dual words in a byte: place j of a packed word has the symbols of several dual words
 // at place j, p digits each. What is added to a byte is added to all of them, and so with a symbol that a byte is multiplied by.
 ghost use mathlib.Core.Path.{_≡_};
-ghost use Prim.Native.Nat.{ℕ, _+_, _*_, _/_, _%_, _^_, _≤_, _<_, min};
+ghost use Prim.Native.Nat.{ℕ, _+_, _*_, _/_, _%_, _^_, _≤_, _<_};
 ghost use lib.Bits.{bitXor};
 ghost use lib.Dec.{eqb};
 ghost use lib.ListN.{length};
@@ -26,19 +26,12 @@ pub fn products_vanish(p: u8, n: usize, book: &[u8], duals: usize) -> bool
     let mut left = [0u8; SPAN];
     let mut l = 0;
     while l < duals {
-        let k = smaller(most, duals - l);
+        let k = sizes::smaller(most, duals - l);
         let product = product_of(p, n, book, l, k, &mut t);
         crate::join(product, &mut left);
         l += k;
     }
     word_array::is_zero(n, &left)
-}
-
-// The smaller of two numbers.
-fn smaller(a: usize, b: usize) -> usize
-    ensures { λ r. ⌜ r ≡ min a b ⌝ }
-{
-    if a < b { a } else { b }
 }
 
 // Room for the table of a packed word's multiples. Only its length matters: what is read of it is written first.

@@ -10,7 +10,7 @@ use native.Mathlib.Omega.{arith}
 use lib.Arith.{digits-lt}
 use lib.ListN.{length}
 use Rattle.word_array.specs.Stored.{place}
-use Rattle.word_table.proofs.Window.{Window}
+use Rattle.word_table.specs.Window.{Window}
 use Rattle.word_table.proofs.Rows.{rows-apart}
 use Rattle.matrix_marks.specs.Marks.{RowCopied, Gatherable, Gathered}
 

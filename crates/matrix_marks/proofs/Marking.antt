@@ -20,7 +20,7 @@ use Rattle.spec_range.proofs.Loop.{fold-none, fold-step, padded-whole}
 use Rattle.word_array.specs.Stored.{place}
 use Rattle.word_array.proofs.Filled.{zero-padded}
 use Rattle.word_table.specs.Multiples.{RowPut}
-use Rattle.word_table.proofs.Window.{Window}
+use Rattle.word_table.specs.Window.{Window}
 use Rattle.word_table.proofs.Rows.{rows-apart}
 use Rattle.matrix_marks.specs.Marks.{Marked, Addable, marksOf, Summable, RowAdded}
 

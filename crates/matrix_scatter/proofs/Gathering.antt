@@ -10,7 +10,7 @@ use native.Mathlib.Omega.{arith}
 use lib.Arith.{digits-lt}
 use lib.ListN.{length}
 use Rattle.word_array.specs.Stored.{place, Sizes}
-use Rattle.word_table.proofs.Window.{Window}
+use Rattle.word_table.specs.Window.{Window}
 use Rattle.matrix_terms.proofs.Received.{order-low}
 use Rattle.matrix_scatter.specs.Scatter.{Logged, RowGathered, bothRows, Gathered}
 

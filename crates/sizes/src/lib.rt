@@ -1,5 +1,6 @@
 // The sizes of words, tables, matrices and books, each named once.
 ghost use mathlib.Core.Path.{_≡_};
+ghost use Prim.Native.Nat.{min};
 ghost use lib.Dec.{ltb};
 
 // The bytes of a generator's or a dual word's body, and the places of the longest word.
@@ -48,4 +49,11 @@ pub fn few(p: u8) -> bool
     ensures { λ r. ⌜ r ≡ ltb p 4 ⌝ }
 {
     p < 4
+}
+
+// The smaller of two numbers.
+pub fn smaller(a: usize, b: usize) -> usize
+    ensures { λ r. ⌜ r ≡ min a b ⌝ }
+{
+    if a < b { a } else { b }
 }

@@ -4,11 +4,11 @@ use mathlib.Core.Path.{_≡_, refl, sym, ap, _∙_, subst}
 use mathlib.Core.Logic.{_≢_, _⊎_, inl, inr}
 use mathlib.Core.Bool.{Bool, true, false, not, cond}
 use Prim.Native.Nat.{ℕ, zero, suc, _+_, _*_, max, _≤_, _<_}
-use native.Mathlib.Nat.{le-refl, le-trans, le-of-eq, le-step, le-of-suc-le-suc, not-suc-le-zero, eq-or-lt-of-le, suc-mul, mul-zero}
+use native.Mathlib.Nat.{le-refl, le-trans, le-of-eq, le-step, le-of-suc-le-suc, not-suc-le-zero, eq-or-lt-of-le, pos-of-ne-zero, suc-mul, mul-zero}
 use native.Mathlib.Omega.{arith}
 use lib.Dec.{T, eqb, eqb→eq}
-use Rattle.spec_range.specs.Fold.{fold, total, indicator, count, largest, all}
-use Rattle.spec_range.proofs.Tests.{same-test, eq→eqb, cond-true}
+use Rattle.spec_range.specs.Fold.{fold, total, indicator, count, largest, all, any}
+use Rattle.spec_range.proofs.Tests.{same-test, eq→eqb, not-of, not-at, cond-true}
 use Rattle.spec_range.proofs.Fold.{fold-cong, fold-op, fold-pick, sums}
 use Rattle.spec_range.proofs.Table.{all-at, all-of}
 
@@ -66,6 +66,14 @@ count-found (suc n) p h = go (p n) (λ b. b) (λ l. count-found n p l) h
     go : (b : Bool) → (T b → T (p n)) → (0 < count n p → (k : ℕ) × (k < n) × T (p k)) → 0 < count n p + indicator b → (k : ℕ) × (k < suc n) × T (p k)
     go true at-n ih h = (n, le-refl (suc n), at-n tt)
     go false at-n ih h = let found = ih (omega arith) in (found .0, le-step (found .1), found .2)
+
+-- a test of any is passed exactly if there is one that passes
+pub any-found : (n : ℕ) (p : ℕ → Bool) → T (any n p) → (k : ℕ) × (k < n) × T (p k)
+any-found n p t =
+    count-found n p (pos-of-ne-zero (λ e. not-at (all n (λ i. not (p i))) t (subst T (none-counted n p) (eq→eqb e))))
+
+pub any-of : (n : ℕ) (p : ℕ → Bool) (k : ℕ) → k < n → T (p k) → T (any n p)
+any-of n p k l t = not-of (all n (λ i. not (p i))) (λ a. not-at (p k) (all-at n (λ i. not (p i)) a k l) t)
 
 -- where just one of a range passes, it is the one found
 pub count-one : (n : ℕ) (p : ℕ → Bool) → count n p ≡ 1 → {k : ℕ} → k < n → T (p k) → (i : ℕ) → i < n → p i ≡ eqb i k

@@ -42,11 +42,14 @@ module _ {A : Type 0} (op : A → A → A) (e : A) where
     fold-unit (suc n) f h = ap₂ op (fold-unit n f (λ i l. h i (le-step l))) (h n (le-refl (suc n))) ∙ unit e
 
     -- units at the end
-    pub fold-extend : (k m : ℕ) → k ≤ m → (f : ℕ → A) → ((i : ℕ) → k ≤ i → f i ≡ e) → fold op e m f ≡ fold op e k f
+    pub fold-short : (k m : ℕ) → k ≤ m → (f : ℕ → A) → ((i : ℕ) → k ≤ i → i < m → f i ≡ e) → fold op e m f ≡ fold op e k f
     unfolding fold
-    fold-extend k m l f h =
-        le-ind (λ (m : ℕ). fold op e m f ≡ fold op e k f) refl
-        (λ m l ih. ap (op (fold op e m f)) (h m l) ∙ unit (fold op e m f) ∙ ih) m l
+    fold-short k m l f =
+        le-ind (λ (m : ℕ). ((i : ℕ) → k ≤ i → i < m → f i ≡ e) → fold op e m f ≡ fold op e k f) (λ h. refl)
+        (λ m l ih h. ap (op (fold op e m f)) (h m l (le-refl _)) ∙ unit (fold op e m f) ∙ ih (λ i a b. h i a (le-step b))) m l
+
+    pub fold-extend : (k m : ℕ) → k ≤ m → (f : ℕ → A) → ((i : ℕ) → k ≤ i → f i ≡ e) → fold op e m f ≡ fold op e k f
+    fold-extend k m l f h = fold-short k m l f (λ i a b. h i a)
 
     pub fold-op : (n : ℕ) (f g : ℕ → A) → fold op e n (λ i. op (f i) (g i)) ≡ op (fold op e n f) (fold op e n g)
     unfolding fold

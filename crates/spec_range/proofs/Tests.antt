@@ -1,7 +1,7 @@
 -- Tests as facts: two tests that pass under the same conditions are equal.
 -- Assumes nothing.
 use mathlib.Core.Path.{_≡_, refl, sym, subst}
-use mathlib.Core.Bool.{Bool, true, false, cond, _&&_, _||_}
+use mathlib.Core.Bool.{Bool, true, false, not, cond, _&&_, _||_}
 use Prim.Native.Nat.{ℕ}
 use lib.Dec.{T, eqb, eqb→eq, eqb-refl}
 
@@ -32,6 +32,18 @@ and-both false b s t = s
 pub or-not-left : (a b : Bool) → (T a → ⊥) → T (a || b) → T b
 or-not-left true b h t = absurd (h tt)
 or-not-left false b h t = t
+
+pub not-of : (b : Bool) → (T b → ⊥) → T (not b)
+not-of true h = h tt
+not-of false h = tt
+
+pub not-at : (b : Bool) → T (not b) → T b → ⊥
+not-at true s t = s
+not-at false s t = t
+
+pub not-not : (b : Bool) → not (not b) ≡ b
+not-not true = refl
+not-not false = refl
 
 pub true-test : (b : Bool) → b ≡ true → T b
 true-test b e = subst T (sym e) tt

@@ -1,7 +1,7 @@
--- A fold of an operation over a range, and what is made of it: a count, a largest value, a test of all.
+-- A fold of an operation over a range, and what is made of it: a count, a largest value, a test of all and one of any.
 -- Assumes nothing.
 use Prim.Native.Nat.{ℕ, zero, suc, _+_, max}
-use mathlib.Core.Bool.{Bool, true, cond, _&&_}
+use mathlib.Core.Bool.{Bool, true, not, cond, _&&_}
 
 -- f 0, f 1, .., f (n - 1) joined by `op`; `e` where the range is empty
 module _ {A : Type 0} (op : A → A → A) (e : A) where
@@ -28,3 +28,7 @@ largest n f = fold max 0 n f
 -- every i below n passes the test
 abbrev pub all : ℕ → (ℕ → Bool) → Bool
 all n p = fold _&&_ true n p
+
+-- some i below n passes the test: not all fail it
+abbrev pub any : ℕ → (ℕ → Bool) → Bool
+any n p = not (all n (λ i. not (p i)))

@@ -25,7 +25,7 @@ use Rattle.spec_word.specs.Word.{at}
 use Rattle.spec_word.proofs.Place.{at-lt, at-period, at-mod}
 use Rattle.word_array.specs.Stored.{place, Sizes, Stored}
 use Rattle.word_table.specs.Multiples.{Twofold, entry, wordOf, Begun, RowStored, RowPut, Tabled}
-use Rattle.word_table.proofs.Window.{Window}
+use Rattle.word_table.specs.Window.{Window}
 
 -- a row ends where a later one starts, or before
 pub rows-apart : (stride : ℕ) {b c : ℕ} → b < c → stride * b + stride ≤ stride * c

@@ -1,21 +1,16 @@
--- A list that a loop writes over from place `from` on: the n places written are f's values, the others as they were.
+-- A window that a loop writes over, place by place.
 -- Assumes nothing.
 use mathlib.Core.Path.{_≡_, refl, sym, _∙_, subst}
 use mathlib.Core.Logic.{⊎-elim}
 use mathlib.Core.List.{List}
-use Prim.Native.Nat.{ℕ, _+_, _≤_, _<_}
+use Prim.Native.Nat.{ℕ, _+_, _<_}
 use native.Mathlib.Nat.{not-suc-le-zero, eq-or-lt-of-le, le-of-suc-le-suc}
 use native.Mathlib.Numerals.{add-one}
 use native.Mathlib.Omega.{arith}
 use lib.ListN.{length, set, length-set}
 use lib.Seq.{getD-set-same, getD-set-other}
 use Rattle.word_array.specs.Stored.{place}
-
-pub record Window (from n : ℕ) (f : ℕ → ℕ) (w₀ w : List ℕ) : Type 0 where
-  pub long : length w ≡ length w₀
-  pub at : (k : ℕ) → k < n → place w (from + k) ≡ f k
-  pub low : (k : ℕ) → k < from → place w k ≡ place w₀ k
-  pub high : (k : ℕ) → from + n ≤ k → place w k ≡ place w₀ k
+use Rattle.word_table.specs.Window.{Window}
 
 pub window-none : (from : ℕ) (f : ℕ → ℕ) (w : List ℕ) → Window from 0 f w w
 window-none from f w = record { long = refl; at = λ k l. absurd (not-suc-le-zero l); low = λ k l. refl; high = λ k l. refl }

@@ -4,7 +4,8 @@ use mathlib.Core.Path.{refl}
 use Prim.Native.Nat.{_+_, _-_, _≤_}
 use native.Mathlib.Omega.{arith}
 use Rattle.word_array.specs.Stored.{place}
-use Rattle.word_table.proofs.Window.{Window, window-none, window-more}
+use Rattle.word_table.specs.Window.{Window}
+use Rattle.word_table.proofs.Window.{window-none, window-more}
 use Rattle.matrix_marks.proofs.Gathering.{window-copied}
 use borrow.Author.Needs.{needs}
 use Rattle.matrix_marks.proofs.gather_row.Statement.{statement}

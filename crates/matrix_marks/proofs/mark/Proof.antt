@@ -5,7 +5,8 @@ use native.Mathlib.Omega.{arith}
 use lib.Dec.{eqb}
 use Rattle.spec_range.specs.Fold.{indicator}
 use Rattle.word_array.specs.Stored.{place}
-use Rattle.word_table.proofs.Window.{Window, window-none, window-more}
+use Rattle.word_table.specs.Window.{Window}
+use Rattle.word_table.proofs.Window.{window-none, window-more}
 use Rattle.word_table.proofs.Rows.{row-put}
 use Rattle.matrix_marks.proofs.Marking.{byte}
 use borrow.Author.Needs.{needs}

@@ -7,7 +7,8 @@ use native.Mathlib.Omega.{arith}
 use mir.Syntax.{w8}
 use mir.Val.{Fits}
 use Rattle.word_array.specs.Stored.{place}
-use Rattle.word_table.proofs.Window.{Window, window-none, window-more}
+use Rattle.word_table.specs.Window.{Window}
+use Rattle.word_table.proofs.Window.{window-none, window-more}
 use Rattle.matrix_marks.proofs.Marking.{sum-fits, window-added}
 use borrow.Author.Needs.{needs}
 use Rattle.matrix_marks.proofs.raise.Statement.{statement}

@@ -1,10 +1,11 @@
 -- `word_array::is_zero` meets its contract. The invariant: `found` is the number of nonzero places below j.
 -- Assumes nothing.
-use mathlib.Core.Path.{_≡_, refl, ap, _∙_}
-use mathlib.Core.Bool.{Bool, true, false, not, _&&_}
+use mathlib.Core.Path.{ap, _∙_}
+use mathlib.Core.Bool.{true, _&&_}
 use Prim.Native.Nat.{ℕ, _-_}
 use native.Mathlib.Omega.{arith}
 use lib.Dec.{eqb}
+use Rattle.spec_range.proofs.Tests.{not-not}
 use Rattle.spec_range.proofs.Fold.{fold-cong}
 use Rattle.spec_range.proofs.Count.{none-counted}
 use Rattle.spec_word.specs.Word.{nonzero}
@@ -44,17 +45,13 @@ loop-less c = search needs
 loop-again : tie.Need-loop-again Inv-loop μ-loop
 loop-again c = counted-more (c .before .before .loop .inv) (omega arith)
 
-twice : (b : Bool) → not (not b) ≡ b
-twice true = refl
-twice false = refl
-
 returns : tie.Need-returns Inv-loop μ-loop
 unfolding allZero
 returns c =
     let s = c .before .before .args in
     ap (λ (x : ℕ). eqb x 0) (counted-end (c .before .loop .inv) (omega arith) .0)
     ∙ none-counted (s .n) (λ i. nonzero (place (s .w .now) i))
-    ∙ fold-cong _&&_ true (s .n) (λ i l. twice (eqb (place (s .w .now) i) 0))
+    ∙ fold-cong _&&_ true (s .n) (λ i l. not-not (eqb (place (s .w .now) i) 0))
 
 pub is-zero-spec : {M : Type 1} → statement M
 is-zero-spec =

@@ -4,7 +4,8 @@ use Prim.Native.Nat.{_-_, _≤_}
 use mathlib.Core.Path.{_≡_, refl}
 use native.Mathlib.Omega.{arith}
 use Rattle.word_array.specs.Stored.{place}
-use Rattle.word_table.proofs.Window.{Window, window-none, window-more}
+use Rattle.word_table.specs.Window.{Window}
+use Rattle.word_table.proofs.Window.{window-none, window-more}
 use Rattle.word_table.proofs.Rows.{twofold}
 use borrow.Author.Needs.{needs}
 use Rattle.word_table.proofs.doubled.Statement.{statement}

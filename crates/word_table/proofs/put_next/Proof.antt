@@ -6,7 +6,8 @@ use native.Mathlib.Omega.{arith}
 use lib.Bits.{bitXor}
 use Rattle.word_array.specs.Stored.{place}
 use Rattle.word_table.specs.Multiples.{entry}
-use Rattle.word_table.proofs.Window.{Window, window-none, window-more}
+use Rattle.word_table.specs.Window.{Window}
+use Rattle.word_table.proofs.Window.{window-none, window-more}
 use Rattle.word_table.proofs.Rows.{row-put}
 use borrow.Author.Needs.{needs}
 use Rattle.word_table.proofs.put_next.Statement.{statement}

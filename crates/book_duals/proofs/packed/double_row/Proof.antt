@@ -3,7 +3,8 @@
 use Prim.Native.Nat.{_-_, _≤_}
 use native.Mathlib.Omega.{arith}
 use Rattle.word_table.specs.Multiples.{entry}
-use Rattle.word_table.proofs.Window.{Window, window-none, window-more}
+use Rattle.word_table.specs.Window.{Window}
+use Rattle.word_table.proofs.Window.{window-none, window-more}
 use Rattle.word_table.proofs.Rows.{row-put}
 use Rattle.book_duals.specs.Lanes.{doubleAll}
 use Rattle.book_duals.proofs.Lanes.{rest-fits, top-fits, double-value}
