@@ -11,6 +11,7 @@ use Rattle.spec_field.specs.Field.{FieldOps}
 use Rattle.spec_word.specs.Word.{at, weight, product}
 use Rattle.spec_word.specs.Division.{divides}
 use Rattle.spec_word.specs.CyclicCode.{unity}
+use Rattle.spec_word.specs.Alike.{alike}
 use Rattle.spec_book.specs.Book.{Book, isCodeWord}
 use Rattle.spec_book.specs.Layout.{generatorAt, limitsAt, dualAt, dualCount, byte, bodyPlace, sizeExponent, symbolDigits, wordLength, fieldOf, bookOf}
 
@@ -74,13 +75,9 @@ module _ (F : FieldOps) (B : Book) where
   unfoldable pub dualsOk : Bool
   dualsOk = all dual-count dualOk
 
-  -- SCOPE 3.14: dual words l and m agree at every place
-  unfoldable pub alike : ℕ → ℕ → Bool
-  alike l m = all n (λ j. eqb (dual l j) (dual m j))
-
-  -- SCOPE 7.8: 8: no two dual words are alike
+  -- SCOPE 7.8: 8: no two dual words are alike: none is like one before it
   unfoldable pub distinctOk : Bool
-  distinctOk = all dual-count (λ l. all l (λ m. not (alike l m)))
+  distinctOk = all dual-count (λ l. all l (λ m. not (alike F n (dual m) (dual l))))
 
 -- SCOPE 7.14: the number where the test fails, else what the next tests give
 abbrev pub unless : Bool → ℕ → ℕ → ℕ

@@ -1,11 +1,14 @@
--- SCOPE 8: The worked cases 1 to 14 and remainders: what the definitions give, and what SCOPE.md has.
+-- SCOPE 8: The worked cases 1 to 14, remainders and words that are alike: what the definitions give, and what SCOPE.md has.
 -- Assumes nothing.
 use mathlib.Core.Path.{_≡_}
-use mathlib.Core.List.{List, [], _∷_}
+use mathlib.Core.Bool.{Bool, true, false}
+use mathlib.Core.List.{List, [], _∷_, _++_}
 use Prim.Native.Nat.{ℕ}
+use lib.ListN.{length}
 use Rattle.spec_range.specs.Table.{table}
-use Rattle.spec_field.specs.Symbols.{product}
+use Rattle.spec_field.specs.Symbols.{product, gf}
 use Rattle.spec_word.specs.Word.{at}
+use Rattle.spec_word.specs.Alike.{alike}
 use Rattle.spec_book.specs.Book.{remainderBy}
 use Rattle.spec_book.specs.Layout.{width, fieldOf, bookOf, wordLength}
 use Rattle.spec_book.specs.Conditions.{refusal}
@@ -13,7 +16,7 @@ use Rattle.spec_coding.specs.Coder.{encode}
 use Rattle.spec_decoding.specs.Matrix.{matrix, cell}
 use Rattle.spec_decoding.specs.Decode.{Kind, holders, decode, mended, stalled, spent}
 use Rattle.spec_decoding.specs.Symmetry.{move}
-use Rattle.spec_cases.specs.Books.{bookA, bookB, bookC}
+use Rattle.spec_cases.specs.Books.{bodyOf, bookBytes, bookA, bookB, bookC}
 
 -- SCOPE 8.18: what is shown of an operation: numbers, or a kind, rounds, changed and the answer word
 pub data Shown : Type 0 where
@@ -74,6 +77,12 @@ leaves book w =
     let R = remainderBy F B (at (B .n) w) in
     numbers R
 
+-- SCOPE 2.9: whether two words over GF(2^p) are alike
+unfoldable pub compares : ℕ → List ℕ → List ℕ → Bool
+compares p w v =
+    let n = length w in
+    alike (gf p) n (at n w) (at n v)
+
 -- SCOPE 5.11: the word w turned by t, times c, plus v
 unfoldable pub moved : List ℕ → ℕ → ℕ → List ℕ → List ℕ → List ℕ
 moved book t c v w =
@@ -127,6 +136,21 @@ remainders =
     ∷ (leaves (bookA 1) (1 ∷ 1 ∷ 0 ∷ 0 ∷ 0 ∷ 0 ∷ 0 ∷ []) ≡ numbers (1 ∷ 1 ∷ 0 ∷ []))
     -- B: 321 leaves 23, since x^2 is 1 + x
     ∷ (leaves bookB (3 ∷ 2 ∷ 1 ∷ []) ≡ numbers (2 ∷ 3 ∷ []))
+    ∷ []
+
+-- SCOPE 8.21: words that are alike, and words that are not
+abbrev pub likenesses : List (Type 0)
+likenesses =
+    -- over GF(2) 1101001 is 1110100 turned by 6; 1001011 is its mirror image, and no turn of it
+    (compares 1 (1 ∷ 1 ∷ 0 ∷ 1 ∷ 0 ∷ 0 ∷ 1 ∷ []) (1 ∷ 1 ∷ 1 ∷ 0 ∷ 1 ∷ 0 ∷ 0 ∷ []) ≡ true)
+    ∷ (compares 1 (1 ∷ 0 ∷ 0 ∷ 1 ∷ 0 ∷ 1 ∷ 1 ∷ []) (1 ∷ 1 ∷ 1 ∷ 0 ∷ 1 ∷ 0 ∷ 0 ∷ []) ≡ false)
+    -- over GF(4) 103 is 120 turned by 2, times 3; 102 is no multiple of a turn of it
+    ∷ (compares 2 (1 ∷ 0 ∷ 3 ∷ []) (1 ∷ 2 ∷ 0 ∷ []) ≡ true)
+    ∷ (compares 2 (1 ∷ 0 ∷ 2 ∷ []) (1 ∷ 2 ∷ 0 ∷ []) ≡ false)
+    -- A with 1101001 for a second dual word is refused by 8
+    ∷ (checks (bookA 1 ++ (4 ∷ bodyOf (1 ∷ 1 ∷ 0 ∷ 1 ∷ 0 ∷ 0 ∷ 1 ∷ []))) ≡ numbers (8 ∷ []))
+    -- s 3, p 1, g 1111111 with the dual words 11 and 101, which have one weight and are not alike, is accepted
+    ∷ (checks (bookBytes 3 1 (1 ∷ 1 ∷ 1 ∷ 1 ∷ 1 ∷ 1 ∷ 1 ∷ []) 3 1 (1 ∷ 1 ∷ []) ++ (4 ∷ bodyOf (1 ∷ 0 ∷ 1 ∷ []))) ≡ numbers (0 ∷ []))
     ∷ []
 
 -- every case of a list holds

@@ -14,7 +14,7 @@ use Rattle.spec_decoding.specs.Matrix.{matrix, cell}
 use Rattle.spec_decoding.specs.Decode.{Result, decode}
 use Rattle.spec_decoding.specs.Symmetry.{move, Moved}
 use Rattle.spec_field.proofs.Laws as L
-use Rattle.spec_word.proofs.Place.{SymbolList, list-word, turn-back, turn-on, at-same, at-lt, at-table, table-symbols}
+use Rattle.spec_word.proofs.Place.{SymbolList, list-word, turn-back, turn-on, at-same, at-lt, at-table, at-scaled-turn, table-symbols, scaled-symbols}
 use Rattle.spec_word.proofs.Product.{Shifted}
 use Rattle.spec_word.proofs.Division.{code-divided}
 use Rattle.spec_word.proofs.CyclicCode.{CodeWord, n-pos, isCode-shifted}
@@ -83,22 +83,16 @@ module _ (F : FieldOps) (laws : FieldLaws F) (B : Book) (ok : Usable F B) where
       -- ---- the moved word itself
 
       pub move-symbols : (w : List ℕ) → SymbolList F n (move F n t c v w)
-      unfolding move plus scale
-      move-symbols w = table-symbols F n _ pos (λ j l. add-below (at n scaled j) (at n v j) (scaled-symbols .symbols j) (hv .symbols j))
-        where
-          scaled : List ℕ
-          scaled = scale F n c (turn n t w)
-
-          scaled-symbols : SymbolList F n scaled
-          scaled-symbols = table-symbols F n _ pos (λ j l. mul-below c (at n (turn n t w) j))
+      unfolding move plus
+      move-symbols w =
+          table-symbols F n _ pos (λ j l.
+          add-below (at n (scale F n c (turn n t w)) j) (at n v j) (scaled-symbols F laws n c (turn n t w) pos .symbols j) (hv .symbols j))
 
       move-moves : (w : List ℕ) → Moves w (move F n t c v w)
-      unfolding motion move plus scale turn
+      unfolding motion move plus
       move-moves w j l =
           at-table n (λ k. at n (scale F n c (turn n t w)) k ⊕ at n v k) (mod-lt (j + t) pos)
-          ∙ ap (_⊕ at n v ((j + t) % n))
-          (at-table n (λ k. c ⊗ at n (turn n t w) k) (mod-lt (j + t) pos)
-          ∙ ap (c ⊗_) (at-table n (λ k. at n w (k + (n - t % n))) (mod-lt (j + t) pos) ∙ at-same n w ((j + t) % n + (n - t % n)) j (turn-back n t j pos)))
+          ∙ ap (_⊕ at n v ((j + t) % n)) (at-scaled-turn F n c t w pos j)
 
       -- the places of a moved word determine it
       moves-unique : (w a b : List ℕ) → SymbolList F n a → SymbolList F n b → Moves w a → Moves w b → a ≡ b

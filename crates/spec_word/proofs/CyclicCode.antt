@@ -2,7 +2,7 @@
 -- Assumes nothing.
 use mathlib.Core.Path.{_≡_, sym, ap, _∙_, fun-ext, subst}
 use Prim.Native.Nat.{ℕ, suc, pred, _+_, _-_, _*_, _%_, _≤_, _<_}
-use native.Mathlib.Nat.{le-of-lt, mod-lt, mul-suc, suc-pred-eq-of-pos, add-mul, add-zero as nat-add-zero}
+use native.Mathlib.Nat.{le-of-lt, mod-lt, add-mul, add-zero as nat-add-zero}
 use native.Mathlib.Omega.{arith}
 use lib.Dec.{T}
 use Rattle.spec_range.proofs.Tests.{same-test}
@@ -12,7 +12,7 @@ use Rattle.spec_field.proofs.Laws as L
 use Rattle.spec_word.specs.Word.{sum, product}
 use Rattle.spec_word.specs.CyclicCode.{Generator, isCode}
 use Rattle.spec_word.proofs.Sums.{field-sums}
-use Rattle.spec_word.proofs.Place.{Word, period-times, period-mod}
+use Rattle.spec_word.proofs.Place.{Word, multiple, period-times, period-mod, period-back}
 use Rattle.spec_word.proofs.Product.{Shifted, product-comm, product-period}
 use Rattle.spec_word.proofs.Division as D
 
@@ -22,10 +22,6 @@ isCode-cong F laws n d g w v h =
     same-test (isCode F n d g w) (isCode F n d g v)
     (λ t. D.divided-code F d g laws n v (λ i l. sym (D.remainder-cong F d g laws n w v h i) ∙ D.code-divided F d g laws n w t i l))
     (λ t. D.divided-code F d g laws n w (λ i l. D.remainder-cong F d g laws n w v h i ∙ D.code-divided F d g laws n v t i l))
-
--- n - 1 times u takes u away, modulo n
-multiple : (n u : ℕ) → 0 < n → u * pred n + u ≡ u * n
-multiple n u pos = sym (mul-suc u (pred n)) ∙ ap (u *_) (suc-pred-eq-of-pos pos)
 
 module _ (F : FieldOps) (laws : FieldLaws F) (n d : ℕ) (g : ℕ → ℕ) (G : Generator F n d g) where
   open FieldOps F using (q, add as _⊕_, mul as _⊗_, inv)
@@ -53,7 +49,7 @@ module _ (F : FieldOps) (laws : FieldLaws F) (n d : ℕ) (g : ℕ → ℕ) (G : 
   turn-on : (t : ℕ) {w : ℕ → ℕ} → Word F n w → CodeWord w → CodeWord (λ j. w (j + t))
   turn-on t {w} w-word h =
       turn-back (t * pred n) (turned t w-word)
-      (subst (λ (v : ℕ → ℕ). CodeWord v) (fun-ext (λ j. sym (period-times n w (w-word .period) t j) ∙ ap w (omega (arith, multiple n t n-pos)))) h)
+      (subst (λ (v : ℕ → ℕ). CodeWord v) (fun-ext (λ j. sym (period-back n w (w-word .period) n-pos t j))) h)
 
   -- ---- the code is linear and cyclic
 

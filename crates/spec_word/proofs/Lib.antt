@@ -5,3 +5,4 @@ pub mod Division
 pub mod Quotient
 pub mod Unique
 pub mod CyclicCode
+pub mod Alike

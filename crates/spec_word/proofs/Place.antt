@@ -2,15 +2,15 @@
 -- Assumes nothing.
 use mathlib.Core.Path.{_≡_, sym, ap, _∙_, subst}
 use mathlib.Core.List.{List}
-use Prim.Native.Nat.{ℕ, zero, suc, _+_, _-_, _*_, _/_, _%_, _<_}
-use native.Mathlib.Nat.{mod-lt, mod-mod, mod-add-mod, mod-add-div', mod-eq-of-lt, add-mod-right, add-mul-mod-self-right, zero-mul, suc-mul}
+use Prim.Native.Nat.{ℕ, zero, suc, pred, _+_, _-_, _*_, _/_, _%_, _<_}
+use native.Mathlib.Nat.{mod-lt, mod-mod, mod-add-mod, mod-add-div', mod-eq-of-lt, add-mod-right, add-mul-mod-self-right, zero-mul, suc-mul, mul-suc, suc-pred-eq-of-pos}
 use native.Mathlib.Omega.{arith}
 use lib.Arith.{digits-mod}
 use lib.ListN.{getD, length}
 use Rattle.spec_range.specs.Table.{table}
 use Rattle.spec_range.proofs.Table.{table-at, table-length}
-use Rattle.spec_field.specs.Field.{FieldOps}
-use Rattle.spec_word.specs.Word.{at, plus}
+use Rattle.spec_field.specs.Field.{FieldOps, FieldLaws}
+use Rattle.spec_word.specs.Word.{at, turn, scale, plus}
 use Rattle.spec_word.proofs.Sums.{Symbols}
 
 -- w is a word of n symbols, read as a function of its places
@@ -23,6 +23,10 @@ pub record SymbolList (F : FieldOps) (n : ℕ) (w : List ℕ) : Type 0 where
   pub exact : length w ≡ n
   pub symbols : Symbols F (at n w)
 
+-- n - 1 times u takes u away, modulo n
+pub multiple : (n u : ℕ) → 0 < n → u * pred n + u ≡ u * n
+multiple n u pos = sym (mul-suc u (pred n)) ∙ ap (u *_) (suc-pred-eq-of-pos pos)
+
 -- ---- a function of period n
 
 module _ (n : ℕ) (f : ℕ → ℕ) (period : (j : ℕ) → f (j + n) ≡ f j) where
@@ -32,6 +36,10 @@ module _ (n : ℕ) (f : ℕ → ℕ) (period : (j : ℕ) → f (j + n) ≡ f j) 
 
   pub period-mod : (j : ℕ) → f (j % n) ≡ f j
   period-mod j = sym (period-times (j / n) (j % n)) ∙ ap f (mod-add-div' j n)
+
+  -- a turn by t after n - 1 of them
+  pub period-back : 0 < n → (t j : ℕ) → f (j + t * pred n + t) ≡ f j
+  period-back pos t j = ap f (omega (arith, multiple n t pos)) ∙ period-times t j
 
 -- ---- places
 
@@ -76,6 +84,14 @@ pub at-plus : (F : FieldOps) (n : ℕ) (w v : List ℕ) {j : ℕ} → j < n → 
 unfolding plus
 at-plus F n w v l = at-table n (λ k. F .add (at n w k) (at n v k)) l
 
+-- turned by t and multiplied by c
+pub at-scaled-turn : (F : FieldOps) (n c t : ℕ) (w : List ℕ) → 0 < n → (j : ℕ) → at n (scale F n c (turn n t w)) ((j + t) % n) ≡ F .mul c (at n w j)
+unfolding scale turn
+at-scaled-turn F n c t w pos j =
+    at-table n (λ k. F .mul c (at n (turn n t w) k)) (mod-lt (j + t) pos)
+    ∙ ap (F .mul c)
+    (at-table n (λ k. at n w (k + (n - t % n))) (mod-lt (j + t) pos) ∙ at-same n w ((j + t) % n + (n - t % n)) j (turn-back n t j pos))
+
 pub list-word : {F : FieldOps} {n : ℕ} {w : List ℕ} → SymbolList F n w → Word F n (at n w)
 list-word {n = n} {w = w} h = record { symbol = h .symbols; period = at-period n w }
 
@@ -86,3 +102,7 @@ table-symbols F n f pos h =
       exact = table-length n f;
       symbols = λ j. subst (λ (x : ℕ). x < F .q) (sym (table-at n f (mod-lt j pos))) (h (j % n) (mod-lt j pos));
     }
+
+pub scaled-symbols : (F : FieldOps) → FieldLaws F → (n c : ℕ) (w : List ℕ) → 0 < n → SymbolList F n (scale F n c w)
+unfolding scale
+scaled-symbols F laws n c w pos = table-symbols F n _ pos (λ j l. laws .mul-below c (at n w j))

@@ -1,3 +1,4 @@
 pub mod Word
 pub mod Division
 pub mod CyclicCode
+pub mod Alike
