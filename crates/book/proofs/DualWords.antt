@@ -1,4 +1,4 @@
--- Condition 7 of readable bytes: the dual words that are tested are those of the book, and the two tests are the book's.
+-- The conditions 7 and 8 of readable bytes: the dual words that are tested are those of the book, and the tests are the book's.
 -- Assumes nothing.
 use mathlib.Core.Path.{_≡_, refl, sym, ap, _∙_}
 use mathlib.Core.Bool.{Bool, true, false, not, _&&_}
@@ -6,12 +6,13 @@ use mathlib.Core.List.{List}
 use Prim.Native.Nat.{ℕ, _≤_, _<_}
 use native.Mathlib.Nat.{mod-eq-of-lt}
 use native.Mathlib.Omega.{arith}
-use lib.Dec.{eqb}
+use lib.Dec.{eqb, eqb→eq}
 use lib.ListN.{length}
 use Rattle.spec_range.specs.Fold.{all}
 use Rattle.spec_range.proofs.Fold.{fold-cong, fold-op, tests}
 use Rattle.spec_range.proofs.Loop.{padded-at}
-use Rattle.spec_range.proofs.Table.{table-at}
+use Rattle.spec_range.proofs.Tests.{and-left, and-right, true-test}
+use Rattle.spec_range.proofs.Table.{table-at, all-at}
 use Rattle.spec_field.specs.Field.{FieldLaws}
 use Rattle.spec_field.specs.Symbols.{gf}
 use Rattle.spec_field.proofs.Gf.{gf-laws}
@@ -19,10 +20,11 @@ use Rattle.spec_word.specs.Word.{weight}
 use Rattle.spec_word.proofs.Place.{at-lt}
 use Rattle.spec_word.proofs.Product.{product-cong}
 use Rattle.spec_book.specs.Layout.{width, generatorAt, dualAt, dualCount, bodyPlace, fieldOf, bookOf}
-use Rattle.spec_book.specs.Conditions.{dualOk, dualsOk}
+use Rattle.spec_book.specs.Conditions.{dualOk, dualsOk, distinctOk}
 use Rattle.spec_book.proofs.Accepting.{body-symbol, body-zero}
 use Rattle.book_duals.specs.Duals as duals
 use Rattle.book_duals.specs.Duals.{generatorWord, dualWord, weightOk, productOk, Lying, Table}
+use Rattle.book_alike.specs.Compared.{differ, Comparable}
 use Rattle.book.specs.Params.{Read, Tabulated}
 use Rattle.book_records.proofs.Tested.{failed, passed}
 use Rattle.book.proofs.Reading.{generator-body, dual-body, read-sizes}
@@ -82,6 +84,22 @@ module _ {bytes : List ℕ} {p n : ℕ} (h : Read bytes p n) {count : ℕ} (e : 
   pub products-decide : {r v : Bool} → r ≡ all count (weightOk n bytes) → not r ≡ false → v ≡ all count (productOk p n bytes)
       → v ≡ dualsOk (fieldOf bytes) (bookOf width bytes)
   products-decide s f d = d ∙ ap (λ (t : Bool). t && all count (productOk p n bytes)) (sym (passed s f)) ∙ duals-test
+
+  -- what condition 8 is asked of, where 7 was passed
+  pub comparable : dualsOk (fieldOf bytes) (bookOf width bytes) ≡ true → Comparable bytes p n count
+  unfolding dualsOk dualOk bookOf dualWord
+  comparable d =
+      record { tested = tested; lying = lying; most = omega (arith, h .sized .whole .count-high); first = λ l b. first l (omega arith) }
+    where
+      first : (l : ℕ) → l < dualCount width (length bytes) → dualWord n bytes l 0 ≡ 1
+      first l b =
+          let t = all-at (dualCount width (length bytes)) (dualOk (fieldOf bytes) (bookOf width bytes)) (true-test _ d) l b in
+          rw (h .sized .n-is) (eqb→eq (bookOf width bytes .dual l 0) 1 (search (and-left, and-right) depth 5))
+
+  -- and its test
+  pub distinct-test : all count (differ p n bytes) ≡ distinctOk (fieldOf bytes) (bookOf width bytes)
+  unfolding differ distinctOk bookOf dualWord
+  distinct-test = rw (e, h .p-is, h .sized .n-is)
 
 -- the table made
 pub table : {bytes t : List ℕ} {p n : ℕ} → n ≤ 63 → Tabulated bytes p n t → Table 128 bytes p n t

@@ -1,6 +1,5 @@
 pub mod Reading
 pub mod DualWords
-pub mod Signed
 pub mod Degree
 pub mod Described
 pub mod Gathering

@@ -1,23 +1,19 @@
 -- What readable bytes hold: the words that the code loads are those of the book, and its tests are the book's.
 -- Assumes nothing.
-use mathlib.Core.Path.{_≡_, ap, ap₂, _∙_}
-use mathlib.Core.Bool.{true, _&&_}
+use mathlib.Core.Path.{_≡_, ap, _∙_}
 use mathlib.Core.List.{List}
-use Prim.Native.Nat.{ℕ, _+_, _%_, _<_}
-use native.Mathlib.Nat.{mod-eq-of-lt}
+use Prim.Native.Nat.{ℕ, _+_, _<_}
 use native.Mathlib.Omega.{arith}
-use lib.Dec.{T, eqb}
+use lib.Dec.{T}
 use lib.ListN.{length}
-use Rattle.spec_range.specs.Fold.{all}
 use Rattle.spec_range.specs.Table.{padded}
 use Rattle.spec_range.proofs.Tests.{and-left, and-right}
-use Rattle.spec_range.proofs.Fold.{fold-cong}
 use Rattle.spec_range.proofs.Table.{all-at}
 use Rattle.spec_range.proofs.Loop.{padded-whole}
 use Rattle.word_array.specs.Stored.{place, Sizes, Stored}
 use Rattle.word_array.proofs.Filled.{read-padded}
-use Rattle.spec_book.specs.Layout.{width, generatorAt, dualAt, dualCount, byte, wordLength, fieldOf, degreeOf, bookOf}
-use Rattle.spec_book.specs.Conditions.{bodyOk, symbolsOk, generatorOk, alike}
+use Rattle.spec_book.specs.Layout.{width, generatorAt, dualAt, dualCount, wordLength, fieldOf, degreeOf, bookOf}
+use Rattle.spec_book.specs.Conditions.{bodyOk, symbolsOk, generatorOk}
 use Rattle.spec_book.proofs.Accepting.{sizes, body-symbol, body-zero}
 use Rattle.book_records.specs.Records.{Readable}
 use Rattle.book.specs.Params.{Sized, Read, generatorTest}
@@ -37,18 +33,6 @@ module _ {bytes : List ℕ} (r : Readable bytes) where
   sized e =
       let s = sizes bytes (r .sizes) in
       record { whole = r .whole; n-is = e; n-low = omega (arith, s .n-low); n-high = omega (arith, s .n-high) }
-
--- ---- dual words, where no more is known than the length of the bytes
-
-module _ {bytes : List ℕ} {n : ℕ} (h : Sized bytes n) where
-  -- two compared where they lie
-  pub alike-test : (l m : ℕ) {a b : ℕ} → a ≡ dualAt width l + 1 → b ≡ dualAt width m + 1
-      → all n (λ j. eqb (byte bytes (a + j)) (byte bytes (b + j))) ≡ alike (fieldOf bytes) (bookOf width bytes) l m
-  unfolding alike bookOf
-  alike-test l m e f =
-      rw (h .n-is) (fold-cong _&&_ true (wordLength bytes) (λ j k.
-      let s : j % wordLength bytes ≡ j = mod-eq-of-lt k in
-      ap₂ eqb (ap (byte bytes) (omega arith)) (ap (byte bytes) (omega arith))))
 
 -- ---- the generator and the tests of readable bytes
 

@@ -13,7 +13,6 @@ use sizes::LIMITS_AT;
 use sizes::TABLE;
 
 mod generator;
-mod pairs;
 mod words;
 
 // Accepted, with the count of dual words, or refused, with the number of SCOPE 7.

@@ -22,7 +22,7 @@ pub fn refusal(book: &[u8], c: Params, g: Word, t: &[u8]) -> u8
     if !duals_ok(c.p, c.n, c.duals, book, t) {
         return 7;
     }
-    if !crate::pairs::distinct_ok(c.n, c.duals, book) {
+    if !book_alike::distinct_ok(c.p, c.n, book, c.duals) {
         return 8;
     }
     0

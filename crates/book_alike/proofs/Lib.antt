@@ -1,2 +1,5 @@
-pub mod Summed
+pub mod Words
+pub mod Signing
+pub mod Laying
 pub mod Differing
+pub mod Comparing

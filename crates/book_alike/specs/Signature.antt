@@ -1,20 +1,49 @@
--- The signature of a word, and numbers of which no two are equal.
+-- The signature of a word, and what the code lays out to take it.
 -- Assumes nothing.
-use mathlib.Core.Bool.{Bool, not}
+use mathlib.Core.Path.{_≡_}
+use mathlib.Core.Bool.{Bool}
 use mathlib.Core.List.{List}
-use Prim.Native.Nat.{ℕ, _+_, _*_}
+use Prim.Native.Nat.{ℕ, _+_, _*_, _%_, _<_}
+use lib.Bits.{bitAnd, bitXor}
 use lib.Dec.{eqb}
-use Rattle.spec_range.specs.Fold.{total, count, all}
+use lib.ListN.{length}
+use mir.Val.{boolByte}
+use Rattle.spec_range.specs.Fold.{total, count}
+use Rattle.spec_word.specs.Word.{at}
 use Rattle.word_array.specs.Stored.{place}
+use Rattle.book_duals.specs.Duals.{dualWord}
 
--- the sum of the 64 bytes from `start` on, each times its factor in f
-unfoldable pub signatureOf : List ℕ → List ℕ → ℕ → ℕ
-signatureOf f bytes start = total 64 (λ j. place bytes (start + j) * place f j)
+-- a number for the outcomes of five tests
+unfoldable pub markOf : Bool → Bool → Bool → Bool → Bool → ℕ
+markOf a b c d e =
+    bitXor (bitXor (bitXor (bitXor (boolByte a * 29) (boolByte b * 71)) (boolByte c * 167)) (boolByte d * 202)) (boolByte e * 86)
 
--- how many of the numbers before place l are the number there
-unfoldable pub sameBefore : List ℕ → ℕ → ℕ
-sameBefore s l = count l (λ m. eqb (place s m) (place s l))
+-- the mark of a word of n symbols at place j: whether the symbols at some places after it, none of them more than n on, are its own
+unfoldable pub markAt : ℕ → (ℕ → ℕ) → ℕ → ℕ
+markAt n w j =
+    markOf (eqb (w j) (w (j + bitAnd 1 n))) (eqb (w j) (w (j + bitAnd 3 n))) (eqb (w j) (w (j + bitAnd 7 n)))
+    (eqb (w j) (w (j + bitAnd 12 n))) (eqb (w j) (w (j + bitAnd 20 n)))
 
--- no two of the first n numbers are equal
-unfoldable pub allDiffer : ℕ → List ℕ → Bool
-allDiffer n s = all n (λ l. all l (λ m. not (eqb (place s m) (place s l))))
+-- the sum of the squares of a word's marks, in 16 digits
+unfoldable pub signatureOf : ℕ → (ℕ → ℕ) → ℕ
+signatureOf n w = total n (λ j. markAt n w j * markAt n w j) % 65536
+
+-- how many of 32 numbers are x
+unfoldable pub timesOf : List ℕ → ℕ → ℕ
+timesOf s x = count 32 (λ m. eqb (place s m) x)
+
+-- the word w of n symbols was laid twice over from place `to` on; the places before it, and the length, are as before
+pub record Twice (n to : ℕ) (w rows₀ rows : List ℕ) : Type 0 where
+  pub long : length rows ≡ length rows₀
+  pub twice : (j : ℕ) → j < n + n → place rows (to + j) ≡ at n w j
+  pub low : (k : ℕ) → k < to → place rows k ≡ place rows₀ k
+
+-- k dual words of the bytes, from dual word l on, were laid twice over, in rows of 128 places; the length is as before
+pub record Laid (bytes : List ℕ) (n l k : ℕ) (rows₀ rows : List ℕ) : Type 0 where
+  pub long : length rows ≡ length rows₀
+  pub twice : (i j : ℕ) → i < k → j < n + n → place rows (128 * i + j) ≡ dualWord n bytes (l + i) j
+
+-- s has 32 places, and the signatures of the dual words
+pub record Signed (bytes : List ℕ) (n duals : ℕ) (s : List ℕ) : Type 0 where
+  pub long : length s ≡ 32
+  pub signed : (l : ℕ) → l < duals → place s l ≡ signatureOf n (dualWord n bytes l)

@@ -1,81 +1,70 @@
-// Signatures: a number for each word of a row of words, which equal words share and few others do. Where no two signatures are equal,
-// no two words are.
+// Condition 8: no two dual words of a book are alike. Words that are alike have one signature, and few others do: only words with one signature
+// are compared.
 ghost use mathlib.Core.Path.{_≡_};
-ghost use Prim.Native.Nat.{_+_, _*_, _≤_, _<_};
+ghost use Prim.Native.Nat.{_+_, _*_, _^_, _≤_};
 ghost use lib.ListN.{length};
+ghost use Rattle.spec_range.specs.Fold.{all};
 ghost use Rattle.spec_range.specs.Table.{padded};
-ghost use Rattle.word_array.specs.Stored.{place};
-ghost use Rattle.book_alike.specs.Signature.{signatureOf, sameBefore, allDiffer};
-use sizes::DUALS;
+ghost use Rattle.spec_book.specs.Layout.{width, dualAt, bodyPlace};
+ghost use Rattle.book_alike.specs.Signature.{Signed};
+ghost use Rattle.book_alike.specs.Compared.{differ, Comparable};
 use sizes::RECORD;
+use sizes::SPAN;
+use sizes::TABLE;
+use sizes::WIDTH;
 
-// The factors of a record's bytes: 0 for its kind byte, and for the places of its word numbers with no pattern. Any others would do.
-pub fn factors() -> [u16; RECORD]
-    ensures { λ r. ⌜ (length r ≡ 64) × (place r 0 ≡ 0) ⌝ }
+mod compare;
+mod signature;
+
+// Whether no two of the dual words are alike.
+pub fn distinct_ok(p: u8, n: usize, book: &[u8], duals: usize) -> bool
+    requires { ⌜ Comparable (now book) p n duals ⌝ }
+    ensures { λ r. ⌜ r ≡ all duals (differ p n (now (book .entry))) ⌝ }
 {
-    let mut f = [0u16; RECORD];
-    let mut j: u16 = 0;
-    while j < RECORD as u16 {
-        f[j as usize] = (((j * j) & 127) * 251) ^ (j * 517);
-        j += 1;
+    if duals < 2 {
+        return true;
     }
-    f[0] = 0;
-    f
+    let s = signature::signatures(n, book, duals);
+    if signature::all_differ(duals, &s) {
+        return true;
+    }
+    let mut t = table_room();
+    pairs_ok(p, n, book, duals, &s, &mut t)
 }
 
-// The sum of a record's bytes, from `start` on, each times its factor.
-fn signature(f: &[u16], s: &[u8], start: usize) -> u32
-    requires { ⌜ (64 ≤ length (now f)) × (start + 64 ≤ length (now s)) ⌝ }
-    ensures { λ r. ⌜ r ≡ signatureOf (now (f .entry)) (now (s .entry)) start ⌝ }
+// Room for the table of a dual word's multiples. Only its length matters: what is read of it is written first.
+fn table_room() -> [u8; TABLE]
+    ensures { λ r. ⌜ 8192 ≡ length r ⌝ }
 {
-    let mut sum: u32 = 0;
+    [0; TABLE]
+}
+
+// The same by comparing: no dual word is like one before it.
+fn pairs_ok(p: u8, n: usize, book: &[u8], duals: usize, s: &[u16], t: &mut [u8]) -> bool
+    requires { ⌜ Comparable (now book) p n duals × Signed (now book) n duals (now s) × (128 * 2 ^ p ≤ length (now t)) ⌝ }
+    ensures { λ r. ⌜ r ≡ all duals (differ p n (now (book .entry))) ⌝ }
+{
+    let mut l = 0;
+    while l < duals {
+        if compare::seen_before(p, n, book, s, l, t) {
+            return false;
+        }
+        l += 1;
+    }
+    true
+}
+
+// Dual word l, by all bytes of its body.
+pub fn dual(book: &[u8], l: usize) -> [u8; SPAN]
+    requires { ⌜ dualAt width (l + 1) ≤ length (now book) ⌝ }
+    ensures { λ r. ⌜ r ≡ padded 64 63 (bodyPlace (now (book .entry)) (dualAt width l)) ⌝ }
+{
+    let start = book_duals::FIRST_DUAL + RECORD * l;
+    let mut w = [0u8; SPAN];
     let mut j = 0;
-    while j < RECORD {
-        sum += (s[start + j] as u32) * (f[j] as u32);
+    while j < WIDTH {
+        w[j] = book[start + j];
         j += 1;
     }
-    sum
-}
-
-// The signatures of `count` records, the first of them at `start`.
-pub fn signatures(f: &[u16], s: &[u8], start: usize, count: usize) -> [u32; DUALS]
-    requires { ⌜ (64 ≤ length (now f)) × (count ≤ 32) × (start + 64 * count ≤ length (now s)) ⌝ }
-    ensures { λ r. ⌜ r ≡ padded 32 count (λ l. signatureOf (now (f .entry)) (now (s .entry)) (start + 64 * l)) ⌝ }
-{
-    let mut out = [0u32; DUALS];
-    let mut l = 0;
-    while l < count {
-        out[l] = signature(f, s, start + RECORD * l);
-        l += 1;
-    }
-    out
-}
-
-// How many of the numbers before place l are the number there, with no branch.
-fn same_before(s: &[u32], l: usize) -> u32
-    requires { ⌜ (l < 32) × (l < length (now s)) ⌝ }
-    ensures { λ r. ⌜ (r ≡ sameBefore (now (s .entry)) l) × (r ≤ l) ⌝ }
-{
-    let x = s[l];
-    let mut found: u32 = 0;
-    let mut m = 0;
-    while m < l {
-        found += (s[m] == x) as u32;
-        m += 1;
-    }
-    found
-}
-
-// Whether no two of the first `count` numbers are equal.
-pub fn all_differ(count: usize, s: &[u32]) -> bool
-    requires { ⌜ (count ≤ 32) × (count ≤ length (now s)) ⌝ }
-    ensures { λ r. ⌜ r ≡ allDiffer count (now (s .entry)) ⌝ }
-{
-    let mut found: u32 = 0;
-    let mut l = 0;
-    while l < count {
-        found += same_before(s, l);
-        l += 1;
-    }
-    found == 0
+    w
 }

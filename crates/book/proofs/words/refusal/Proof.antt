@@ -3,9 +3,10 @@
 use mathlib.Core.Path.{_≡_, _∙_}
 use mathlib.Core.Bool.{true}
 use Rattle.spec_book.specs.Layout.{width, fieldOf, bookOf}
-use Rattle.spec_book.specs.Conditions.{generatorOk, limitsOk, bookRefusal}
+use Rattle.spec_book.specs.Conditions.{generatorOk, limitsOk, dualsOk, bookRefusal}
 use Rattle.book_records.proofs.Tested.{failed, passed}
 use Rattle.book.proofs.Reading.{read-sizes}
+use Rattle.book.proofs.DualWords.{comparable, distinct-test}
 use Rattle.book.proofs.Gathering.{gathered-degree, gathered-word, gathered-generator, gathered-limits}
 use borrow.Author.Needs.{needs}
 use Rattle.book.proofs.words.refusal.Statement.{statement}
@@ -51,21 +52,26 @@ returns-3 c =
     let s = c .before .before in
     rw (generates (s .before .before), limited s, failed (c .before .duals-ok .ensures) (c .if3 .taken))
 
+-- the condition 7 was passed, too
+dual-words : (c : tie.Else3) → let book = c .before .before .before .before .before .before .before .before .args .book .now in dualsOk (fieldOf book) (bookOf width book) ≡ true
+dual-words c = passed (c .before .duals-ok .ensures) (c .if3 .left)
+
 distinct-ok-requires : tie.Need-distinct-ok-requires
 distinct-ok-requires c κs =
     let h = c .before .before .before .before .before .before .before .before .pre in
-    (h .read .readable, h .read .sized, h .duals-is)
+    comparable (h .read) (h .duals-is) (dual-words c)
 
 returns-4 : tie.Need-returns-4
 unfolding bookRefusal
 returns-4 c =
     let t = c .before .before in
     let s = t .before .before in
+    let h = s .before .before .before .before .before .before .pre in
     rw (
       generates (s .before .before),
       limited s,
-      passed (t .before .duals-ok .ensures) (t .if3 .left),
-      failed (c .before .distinct-ok .ensures) (c .if4 .taken),
+      dual-words t,
+      failed (c .before .distinct-ok .ensures ∙ distinct-test (h .read) (h .duals-is)) (c .if4 .taken),
     )
 
 returns-5 : tie.Need-returns-5
@@ -73,11 +79,12 @@ unfolding bookRefusal
 returns-5 c =
     let t = c .before .before in
     let s = t .before .before in
+    let h = s .before .before .before .before .before .before .pre in
     rw (
       generates (s .before .before),
       limited s,
-      passed (t .before .duals-ok .ensures) (t .if3 .left),
-      passed (c .before .distinct-ok .ensures) (c .if4 .left),
+      dual-words t,
+      passed (c .before .distinct-ok .ensures ∙ distinct-test (h .read) (h .duals-is)) (c .if4 .left),
     )
 
 pub refusal-spec : {M : Type 1} → statement M

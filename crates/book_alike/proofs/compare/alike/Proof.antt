@@ -1,0 +1,77 @@
+-- `book_alike::compare::alike` meets its contract. The invariant: no turn below k fits.
+-- Assumes nothing.
+use mathlib.Core.Path.{sym, ap, _∙_}
+use mathlib.Core.Bool.{not}
+use Prim.Native.Nat.{_-_}
+use native.Mathlib.Omega.{arith}
+use Rattle.spec_range.proofs.Loop.{Passing, passing-none, passing-more, passing-fails, passing-end}
+use Rattle.book_alike.specs.Compared.{turnOk}
+use Rattle.book_alike.proofs.Comparing.{row-fits, alike-compared}
+use borrow.Author.Needs.{needs}
+use Rattle.book_alike.proofs.compare.alike.Statement.{statement}
+use Rattle.book_alike.proofs.compare.alike.Tie as tie
+
+abbrev Inv-loop : tie.InvT-loop
+Inv-loop p n t d k₀ k = Passing n (λ k. not (turnOk 128 n d k t)) k
+
+abbrev μ-loop : tie.MeasureT-loop
+μ-loop p n t d k₀ k = n - k
+
+doubled-requires : tie.Need-doubled-requires Inv-loop μ-loop
+doubled-requires c κs = search needs
+
+loop-holds : tie.Need-loop-holds Inv-loop μ-loop
+loop-holds c = passing-none _ _
+
+slice-aggregate-turn-ok : tie.Need-slice-aggregate-turn-ok Inv-loop μ-loop
+slice-aggregate-turn-ok c = search needs
+
+turn-ok-requires : tie.Need-turn-ok-requires Inv-loop μ-loop
+turn-ok-requires c κs =
+    let double = c .before .before .before in
+    let s = double .before .before .pre in (
+      search needs,
+      search needs,
+      search needs,
+      row-fits (s .0) 64 (omega (arith, s .0 .n-high)) (omega (arith, s .0 .n-high)) (s .1) (double .doubled .ensures) (s .2) (s .3)
+          (c .before .before .loop .k) (search needs),
+    )
+
+returns : tie.Need-returns Inv-loop μ-loop
+returns c =
+    let double = c .before .before .before .before .before in
+    let s = double .before .before .pre in
+    ap not (passing-fails (c .before .before .before .before .loop .inv) (search needs) (ap not (sym (c .before .turn-ok .ensures) ∙ c .if1 .taken)))
+    ∙ alike-compared (s .0) 64 (omega (arith, s .0 .n-high)) (omega (arith, s .0 .n-high)) (s .1) (double .doubled .ensures) (s .2) (s .3)
+
+add-k : tie.Need-add-k Inv-loop μ-loop
+add-k c = search needs
+
+loop-less : tie.Need-loop-less Inv-loop μ-loop
+loop-less c = search needs
+
+loop-again : tie.Need-loop-again Inv-loop μ-loop
+loop-again c = passing-more (c .before .before .before .before .loop .inv) (search needs) (ap not (sym (c .before .turn-ok .ensures) ∙ c .if1 .left))
+
+returns-2 : tie.Need-returns-2 Inv-loop μ-loop
+returns-2 c =
+    let double = c .before .before in
+    let s = double .before .before .pre in
+    ap not (passing-end (c .before .loop .inv) (search needs))
+    ∙ alike-compared (s .0) 64 (omega (arith, s .0 .n-high)) (omega (arith, s .0 .n-high)) (s .1) (double .doubled .ensures) (s .2) (s .3)
+
+pub alike-spec : {M : Type 1} → statement M
+alike-spec =
+    tie.close
+    (tie.spec
+    Inv-loop
+    μ-loop
+    doubled-requires
+    loop-holds
+    slice-aggregate-turn-ok
+    turn-ok-requires
+    returns
+    add-k
+    loop-less
+    loop-again
+    returns-2)

@@ -1,0 +1,38 @@
+-- What condition 8 asks of a book's dual words, what is known of them where it is tested, and how two words are compared.
+-- Assumes nothing.
+use mathlib.Core.Path.{_≡_}
+use mathlib.Core.Bool.{Bool, not, _&&_}
+use mathlib.Core.List.{List}
+use Prim.Native.Nat.{ℕ, _+_, _*_, _≤_, _<_}
+use lib.Dec.{eqb}
+use Rattle.spec_range.specs.Fold.{all}
+use Rattle.spec_field.specs.Symbols.{gf}
+use Rattle.spec_word.specs.Word.{nonzero}
+use Rattle.spec_word.specs.Alike.{alike}
+use Rattle.word_array.specs.Stored.{place}
+use Rattle.word_table.specs.Multiples.{wordOf, Multiples}
+use Rattle.book_duals.specs.Duals.{dualWord, Lying, Tested}
+
+-- dual word l is like none before it
+unfoldable pub differ : ℕ → ℕ → List ℕ → ℕ → Bool
+differ p n bytes l = all l (λ m. not (alike (gf p) n (dualWord n bytes m) (dualWord n bytes l)))
+
+-- the dual words have symbols, are zero from place n on, and have symbol 1 at place 0
+pub record Comparable (bytes : List ℕ) (p n duals : ℕ) : Type 0 where
+  pub tested : Tested bytes p n duals
+  pub lying : Lying bytes n duals
+  pub most : duals ≤ 32
+  pub first : (l : ℕ) → l < duals → dualWord n bytes l 0 ≡ 1
+
+-- t is the table of the multiples of dual word l
+pub record TableOf (bytes : List ℕ) (p n l : ℕ) (t : List ℕ) : Type 0 where
+  pub multiples : Multiples 128 p n t
+  pub word : wordOf 128 n t ≡ dualWord n bytes l
+
+-- the n places of d from k on are those of t from `from` on
+unfoldable pub sameRow : ℕ → List ℕ → ℕ → List ℕ → ℕ → Bool
+sameRow n d k t from = all n (λ j. eqb (place d (k + j)) (place t (from + j)))
+
+-- the n places of d from k on are the row of t, of `stride` places, for the symbol at k, which is not zero
+unfoldable pub turnOk : ℕ → ℕ → List ℕ → ℕ → List ℕ → Bool
+turnOk stride n d k t = nonzero (place d k) && sameRow n d k t (stride * place d k)
