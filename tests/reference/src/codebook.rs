@@ -87,7 +87,7 @@ pub fn check(book: &[u8]) -> Result<Codebook, u8> {
     refuse(5, wrong_generator(&records, &shape))?;
     refuse(6, wrong_limit(&records, &shape))?;
     refuse(7, wrong_dual_word(&records, &shape))?;
-    refuse(8, equal_dual_words(&records))?;
+    refuse(8, alike_dual_words(&records, &shape))?;
     let generator = shape.word(records.generator);
     Ok(Codebook {
         generator: generator.to_vec(),
@@ -154,8 +154,10 @@ fn wrong_dual_word(records: &Records, shape: &Shape) -> bool {
     })
 }
 
-/// Condition 8: "two dual words equal", "equal in all places".
-fn equal_dual_words(records: &Records) -> bool {
-    let words = &records.dual_words;
-    (0..words.len()).any(|first| words[..first].contains(&words[first]))
+/// Condition 8: two dual words "alike when one is a nonzero symbol times a
+/// turn of the other".
+fn alike_dual_words(records: &Records, shape: &Shape) -> bool {
+    let words: Vec<&[u8]> = shape.words(records).collect();
+    let alike = |one: usize, other: usize| word::alike(shape.field, words[one], words[other]);
+    (0..words.len()).any(|one| (0..one).any(|other| alike(one, other)))
 }

@@ -1,6 +1,7 @@
 //! Test input from a seed: accepted codebooks of every shape, words of every
 //! sort, and books with known faults. The same seed gives the same input.
 
+mod copies;
 mod damage;
 mod random;
 mod roots;
@@ -8,6 +9,7 @@ mod words;
 
 use std::collections::{BTreeMap, BTreeSet};
 
+pub use copies::likeness;
 pub use damage::{damage, damage_all};
 pub use random::Random;
 pub use words::{any_message, any_word, arbitrary, bad_symbol, code_word, damaged_code_word};
@@ -45,28 +47,30 @@ enum Taste {
     Many,
 }
 
-/// Dual words by their weight.
+/// Dual words by their weight, many of them alike.
 type Groups = BTreeMap<usize, BTreeSet<Vec<u8>>>;
 
 /// How many multiples are tried where many words of one weight are wanted.
-const MOST_ATTEMPTS: usize = 64;
+const MOST_ATTEMPTS: usize = 600;
 
 /// A codebook that is accepted. Refusal 3 where s and p are none.
 pub fn book(s: u8, p: u8, random: &mut Random) -> Result<Vec<u8>, u8> {
     let (generator, cofactor) = roots::factors(s, p, random)?;
-    let taste = *random.pick(&[Taste::Light, Taste::Any, Taste::Many]);
+    let taste = *random.pick(&[Taste::Light, Taste::Any, Taste::Many, Taste::Many]);
     let wanted = random.between(1, 32);
+    // More than are wanted, since many are alike.
     let at_once = match taste {
-        Taste::Many => wanted,
+        Taste::Many => 3 * wanted,
         Taste::Light | Taste::Any => 1,
     };
-    let groups = dual_words(Field::new(p)?, &cofactor, at_once, random);
+    let field = Field::new(p)?;
+    let groups = multiples(field, &cofactor, at_once, random);
     let mut group = choose(groups, taste, random);
     random.shuffle(&mut group);
-    group.truncate(wanted);
+    let dual_words = copies::unlike(field, &group, wanted, random);
     let i = limit(63, random);
     let d = limit(generator.len(), random);
-    Ok(books::write(s, p, &generator, i, d, &group))
+    Ok(books::write(s, p, &generator, i, d, &dual_words))
 }
 
 /// A codebook of any shape.
@@ -88,42 +92,30 @@ fn limit(most: usize, random: &mut Random) -> u8 {
     limit as u8
 }
 
-/// Nonzero multiples of h = (x^n - 1) / g, h itself among them, each turned
-/// so that place 0 is nonzero and scaled so that it is 1; by weight. Looked
-/// for longer while no weight has the words wanted.
-fn dual_words(field: Field, cofactor: &[u8], wanted: usize, random: &mut Random) -> Groups {
-    let n = cofactor.len();
-    let few = random.below(12);
+/// Nonzero multiples of h = (x^n - 1) / g by weight: h, and again and again
+/// a turn of it, times a symbol, added. Now and then it starts from h anew,
+/// which keeps the multiples light. Looked for longer while no weight has
+/// the words wanted.
+fn multiples(field: Field, cofactor: &[u8], wanted: usize, random: &mut Random) -> Groups {
+    let few = random.below(150);
+    let mut multiple = cofactor.to_vec();
     let mut groups = Groups::new();
     for attempt in 0..MOST_ATTEMPTS {
         if attempt > few && groups.values().any(|group| group.len() >= wanted) {
             break;
         }
-        let factor = match attempt {
-            0 => vec![1],
-            _ if random.once_in(3) => arbitrary(n, field.q(), random),
-            _ => few_terms(n, field.q(), random),
-        };
-        let multiple = word::product(field, cofactor, &factor);
-        for place in (0..n).filter(|&place| multiple[place] != 0) {
-            if let Some(inverse) = field.inverse(multiple[place]) {
-                let turned = word::turn(&multiple, n - place);
-                let scaled = word::scale(field, &turned, inverse);
-                let weight = word::weight(&scaled);
-                groups.entry(weight).or_default().insert(scaled);
-            }
+        let weight = word::weight(&multiple);
+        if weight > 0 {
+            groups.entry(weight).or_default().insert(multiple.clone());
         }
+        if random.once_in(6) {
+            multiple = cofactor.to_vec();
+        }
+        let turned = word::turn(cofactor, random.below(cofactor.len()));
+        let term = word::scale(field, &turned, random.symbol(1, field.q()));
+        multiple = word::add(field, &multiple, &term);
     }
     groups
-}
-
-/// A multiplier of few terms, which keeps the multiple light.
-fn few_terms(n: usize, q: u8, random: &mut Random) -> Vec<u8> {
-    let mut factor = vec![0; n];
-    for _ in 0..random.between(1, n.min(5)) {
-        factor[random.below(n)] = random.symbol(1, q);
-    }
-    factor
 }
 
 /// The words of one weight.

@@ -25,6 +25,17 @@ pub fn add(field: Field, a: &[u8], b: &[u8]) -> Vec<u8> {
     a.iter().zip(b).map(|(&a, &b)| field.sum(a, b)).collect()
 }
 
+/// Two words are "alike when one is a nonzero symbol times a turn of the
+/// other". Every turn and every nonzero symbol is tried, each product until
+/// a place differs. From `b` alone: what leads there leads back.
+pub fn alike(field: Field, a: &[u8], b: &[u8]) -> bool {
+    (0..b.len()).any(|t| {
+        let turned = turn(b, t);
+        let times = |c| turned.iter().map(move |&symbol| field.product(symbol, c));
+        (1..field.q()).any(|c| times(c).eq(a.iter().copied()))
+    })
+}
+
 /// "The weight is the count of nonzero symbols."
 pub fn weight(word: &[u8]) -> usize {
     word.iter().filter(|&&symbol| symbol != 0).count()

@@ -2,6 +2,7 @@
 
 use std::collections::{BTreeMap, BTreeSet};
 
+use reference::books::symbols;
 use reference::codebook::check;
 use reference::field::Field;
 use reference::generate::{self, damage, damage_all, Random, SHAPES};
@@ -31,13 +32,46 @@ fn generated_books_are_accepted_and_meet_the_ends() {
         let met = |what: &str, number| seen[what].contains(&number);
         assert!(met("I", 1) && met("I", 63));
         assert!(met("D", 1) && met("D", n));
-        assert!(met("L", 1) && (n < 15 || met("L", 32)), "s {s}, p {p}");
+        assert!(
+            met("L", 1) && met("L", most_dual_words(s, p)),
+            "s {s}, p {p}"
+        );
+        assert!(seen["L"].last() <= Some(&most_dual_words(s, p)));
         assert!(met("degree", 1) && met("degree", n - 1), "s {s}, p {p}");
         assert!(n < 15 || seen["weight"].len() > 4);
         assert!(n < 15 || seen["degree"].len() > 4);
     }
     for (s, p) in [(0, 1), (2, 0), (3, 2), (7, 1), (6, 4), (255, 255)] {
         assert_eq!(generate::book(s, p, &mut Random::new(1)), Err(3));
+    }
+}
+
+/// The most dual words that a book can have. With few symbols and places
+/// there are not 32 words of one weight of which no two are alike.
+fn most_dual_words(s: u8, p: u8) -> usize {
+    match (s, p) {
+        // 11 of weight 2, or 111.
+        (2, 1) => 1,
+        // 123 and 132 of weight 3. Of weight 2 a code has at most one.
+        (2, 2) => 2,
+        // 1111, 11101, 111001, 11011 and 110101 of weight 4, where every word
+        // of even weight is a dual word. Of weight 2 there are three.
+        (3, 1) => 5,
+        _ => 32,
+    }
+}
+
+#[test]
+fn dual_words_are_turned_at_random() {
+    let mut seen: BTreeSet<Vec<u8>> = BTreeSet::new();
+    for seed in 0..200 {
+        let bytes = generate::book(3, 1, &mut Random::new(seed)).expect("a shape");
+        let book = check(&bytes).expect("accepted");
+        seen.extend(book.dual_words().iter().cloned());
+    }
+    // Of one class, all that have 1 at place 0.
+    for word in ["1110100", "1101001", "1010011", "1001110"] {
+        assert!(seen.contains(&symbols(word)), "{word}");
     }
 }
 
@@ -91,6 +125,47 @@ fn of_several_faults_the_smallest_is_found() {
     assert_eq!(tried, 355 * SHAPES.len());
 }
 
+/// All the ways in which a book can be damaged.
+const WAYS: [&str; 37] = [
+    "1 empty",
+    "1 long",
+    "1 no records",
+    "1 odd",
+    "1 short",
+    "2 dual word",
+    "2 first",
+    "2 second",
+    "2 third",
+    "3 both",
+    "3 p",
+    "3 s",
+    "4 dual word place",
+    "4 dual word symbol",
+    "4 generator place",
+    "4 generator symbol",
+    "5 degree",
+    "5 divisor",
+    "5 lead",
+    "5 zero",
+    "6 D",
+    "6 I",
+    "6 both",
+    "7 first place 0",
+    "7 first product",
+    "7 first weight",
+    "7 later place 0",
+    "7 later product",
+    "7 later weight",
+    "7 scaled copy added",
+    "7 scaled copy replaced",
+    "8 equal copy added",
+    "8 equal copy replaced",
+    "8 turned copy added",
+    "8 turned copy replaced",
+    "8 turned and scaled copy added",
+    "8 turned and scaled copy replaced",
+];
+
 #[test]
 fn every_way_of_damage_is_taken() {
     let mut ways: BTreeMap<String, usize> = BTreeMap::new();
@@ -105,40 +180,7 @@ fn every_way_of_damage_is_taken() {
             *ways.entry(format!("{fault} {way}")).or_default() += 1;
         }
     }
-    let due = [
-        "1 empty",
-        "1 long",
-        "1 no records",
-        "1 odd",
-        "1 short",
-        "2 dual word",
-        "2 first",
-        "2 second",
-        "2 third",
-        "3 both",
-        "3 p",
-        "3 s",
-        "4 dual word place",
-        "4 dual word symbol",
-        "4 generator place",
-        "4 generator symbol",
-        "5 degree",
-        "5 divisor",
-        "5 lead",
-        "5 zero",
-        "6 D",
-        "6 I",
-        "6 both",
-        "7 first place 0",
-        "7 first product",
-        "7 first weight",
-        "7 later place 0",
-        "7 later product",
-        "7 later weight",
-        "8 added",
-        "8 replaced",
-    ];
-    for due in due {
+    for due in WAYS {
         assert!(ways.remove(due).is_some_and(|count| count >= 10), "{due}");
     }
     assert_eq!(ways.into_keys().next(), None);
@@ -192,15 +234,32 @@ fn way(fault: u8, l: usize, book: &[u8]) -> String {
             (_, true) => "I",
             _ => "both",
         },
-        7 => return dual_word_way(field, book),
-        _ if book.len() > 70 + 64 * l => "added",
-        _ => "replaced",
+        7 => return dual_word_way(field, l, book),
+        _ => return copy_way(field, l, book).expect("a copy"),
     }
     .to_string()
 }
 
-fn dual_word_way(field: Field, book: &[u8]) -> String {
-    let words: Vec<&[u8]> = book[70..].chunks(64).map(|record| &record[1..16]).collect();
+/// The dual words, 15 places each.
+fn dual_words(book: &[u8]) -> Vec<&[u8]> {
+    book[70..].chunks(64).map(|record| &record[1..16]).collect()
+}
+
+/// Of which sort the one copy among the dual words is.
+fn copy_way(field: Field, l: usize, book: &[u8]) -> Option<String> {
+    let words = dual_words(book);
+    let sort = (0..words.len())
+        .flat_map(|one| (0..one).map(move |other| (one, other)))
+        .find_map(|(one, other)| generate::likeness(field, words[one], words[other]))?;
+    let added = if words.len() > l { "added" } else { "replaced" };
+    Some(format!("{sort} copy {added}"))
+}
+
+fn dual_word_way(field: Field, l: usize, book: &[u8]) -> String {
+    if let Some(way) = copy_way(field, l, book).filter(|way| way.starts_with("scaled")) {
+        return way;
+    }
+    let words = dual_words(book);
     let product = |b: &[u8]| word::weight(&word::product(field, b, &book[4..19]));
     let where_from = |index| if index == 0 { "first" } else { "later" };
     if let Some(index) = words.iter().position(|b| b[0] != 1) {

@@ -6,8 +6,8 @@ use reference::packed;
 #[test]
 fn check_has_l_in_byte_1() {
     assert_eq!(packed::check(&books::a()), 0x0000_0100);
-    let words = ["1110100", "1101001", "1010011"].map(symbols);
-    let book = books::write(3, 1, &symbols("1101"), 3, 1, &words);
+    let words = ["11", "101", "1001"].map(symbols);
+    let book = books::write(3, 1, &[1; 7], 3, 1, &words);
     assert_eq!(packed::check(&book), 0x0000_0300);
     assert_eq!(packed::check(&books::a_with(8)), 6);
     assert_eq!(packed::check(&[]), 1);

@@ -139,6 +139,8 @@ fn a_refused_codebook_ends_the_run() {
     };
     let mut twice = books::a();
     twice.extend_from_within(70..134);
+    let mut turned = twice.clone();
+    turned[135..142].copy_from_slice(&symbols("1101001"));
     let books = [
         (books::a()[..133].to_vec(), 1),
         (set(0, 2), 2),
@@ -148,6 +150,7 @@ fn a_refused_codebook_ends_the_run() {
         (set(69, 8), 6),
         (set(72, 0), 7),
         (twice, 8),
+        (turned, 8),
     ];
     for (book, number) in books {
         let line = format!("R {number}\n");

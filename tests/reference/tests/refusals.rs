@@ -62,12 +62,14 @@ fn a_with(g: &str, i: u8, d: u8, dual_words: &[&str]) -> Vec<u8> {
     books::write(3, 1, &symbols(g), i, d, &dual_words)
 }
 
-/// The four dual words that A's generator has with place 0 nonzero.
-const DUAL_WORDS: [&str; 4] = ["1110100", "1101001", "1010011", "1001110"];
+/// A generator for which every word of even weight is a dual word, and four
+/// such words, no two alike; the second and the third are mirror images.
+const EVEN: &str = "1111111";
+const DUAL_WORDS: [&str; 4] = ["1111000", "1110100", "1110010", "1101100"];
 
-/// Book A with all four dual words.
-fn a_with_four() -> Vec<u8> {
-    a_with("1101", 3, 1, &DUAL_WORDS)
+/// Book A with that generator and those dual words.
+fn with_four() -> Vec<u8> {
+    a_with(EVEN, 3, 1, &DUAL_WORDS)
 }
 
 fn set(mut book: Vec<u8>, at: usize, byte: u8) -> Vec<u8> {
@@ -80,7 +82,7 @@ fn the_books_themselves_are_accepted() {
     for (book, l) in [(books::a(), 1), (books::b(), 1), (books::c(), 1)] {
         assert_eq!(check(&book).map(|book| book.l()), Ok(l));
     }
-    assert_eq!(check(&a_with_four()).map(|book| book.l()), Ok(4));
+    assert_eq!(check(&with_four()).map(|book| book.l()), Ok(4));
 }
 
 #[test]
@@ -101,8 +103,8 @@ fn row_2_kind_bytes() {
     refused_book(&set(books::a(), 0, 2), 2);
     for at in [0, 3, 67, 70, 134, 198, 262] {
         for kind in [0, 1, 2, 3, 4, 5, 255] {
-            let book = set(a_with_four(), at, kind);
-            if book != a_with_four() {
+            let book = set(with_four(), at, kind);
+            if book != with_four() {
                 refused_book(&book, 2);
             }
         }
@@ -151,8 +153,8 @@ fn row_4_book_symbols_and_places() {
     for body in [4, 71, 71 + 64, 71 + 128, 71 + 192] {
         for place in 0..63 {
             let wrong = if place < 7 { 2 } else { 1 };
-            refused_book(&set(a_with_four(), body + place, wrong), 4);
-            refused_book(&set(a_with_four(), body + place, 255), 4);
+            refused_book(&set(with_four(), body + place, wrong), 4);
+            refused_book(&set(with_four(), body + place, 255), 4);
         }
     }
     refused_book(&set(books::b(), 4, 4), 4);
@@ -202,32 +204,66 @@ fn row_7_dual_words() {
         &books::write(2, 2, &symbols("21"), 3, 2, &[symbols("123")]),
         7,
     );
-    // The weight alone: with this g every word of even weight is a dual one.
-    let even = [symbols("11"), symbols("101"), symbols("110110")];
-    let book = |words: &[Vec<u8>]| books::write(3, 1, &symbols("1111111"), 3, 1, words);
-    assert!(check(&book(&even[..2])).is_ok());
-    assert!(check(&book(&even[2..])).is_ok());
-    refused_book(&book(&even), 7);
-    refused_book(&book(&[even[2].clone(), even[0].clone()]), 7);
+    // The weight alone.
+    let even = ["11", "101", "110110"];
+    assert!(check(&a_with(EVEN, 3, 1, &even[..2])).is_ok());
+    assert!(check(&a_with(EVEN, 3, 1, &even[2..])).is_ok());
+    refused_book(&a_with(EVEN, 3, 1, &even), 7);
+    refused_book(&a_with(EVEN, 3, 1, &[even[2], even[0]]), 7);
+    // A word and the same scaled: alike, but place 0 is looked at before.
+    for scaled in ["210", "320"] {
+        refused_book(&over_4("231", &["120", scaled]), 7);
+    }
     // Any word of the book.
     for index in 0..4 {
         let mut words = DUAL_WORDS;
         words[index] = "0111010";
-        refused_book(&a_with("1101", 3, 1, &words), 7);
+        refused_book(&a_with(EVEN, 3, 1, &words), 7);
         words[index] = "1101000";
-        refused_book(&a_with("1101", 3, 1, &words), 7);
+        refused_book(&a_with(EVEN, 3, 1, &words), 7);
         words[index] = "1000000";
-        refused_book(&a_with("1101", 3, 1, &words), 7);
+        refused_book(&a_with(EVEN, 3, 1, &words), 7);
     }
 }
 
+/// A book of length 3 over GF(4), I 3 and D 1.
+fn over_4(g: &str, dual_words: &[&str]) -> Vec<u8> {
+    let dual_words: Vec<Vec<u8>> = dual_words.iter().map(|b| symbols(b)).collect();
+    books::write(2, 2, &symbols(g), 3, 1, &dual_words)
+}
+
 #[test]
-fn row_8_equal_dual_words() {
+fn row_8_alike_dual_words() {
     refused_book(&a_with("1101", 3, 1, &["1110100", "1110100"]), 8);
-    for (one, other) in [(0, 1), (0, 3), (1, 2), (2, 3), (3, 0), (3, 1)] {
-        let mut words = DUAL_WORDS;
-        words[one] = words[other];
-        refused_book(&a_with("1101", 3, 1, &words), 8);
+    // The installer's book, the other two turns with 1 at place 0, and all.
+    for turned in ["1101001", "1010011", "1001110"] {
+        refused_book(&a_with("1101", 3, 1, &["1110100", turned]), 8);
+        refused_book(&a_with("1101", 3, 1, &[turned, "1110100"]), 8);
+    }
+    let all = ["1110100", "1101001", "1010011", "1001110"];
+    refused_book(&a_with("1101", 3, 1, &all), 8);
+    // Turned and scaled at once: 120 turned by 2 is 201, which times 3 is 103.
+    refused_book(&over_4("231", &["120", "103"]), 8);
+    refused_book(&over_4("231", &["103", "120"]), 8);
+    // 123 turned by 1 is 312, which times 2 is 123: itself, and not 132.
+    refused_book(&over_4("111", &["123", "123"]), 8);
+    assert!(check(&over_4("111", &["123", "132"])).is_ok());
+}
+
+#[test]
+fn row_8_any_two_dual_words() {
+    for one in 0..4 {
+        for other in (0..4).filter(|&other| other != one) {
+            for turned_by in 0..7 {
+                let mut words = DUAL_WORDS;
+                let word = words[other];
+                let turned = [&word[7 - turned_by..], &word[..7 - turned_by]].concat();
+                words[one] = &turned;
+                // Not 1 at place 0 is 7.
+                let number = if turned.starts_with('1') { 8 } else { 7 };
+                refused_book(&a_with(EVEN, 3, 1, &words), number);
+            }
+        }
     }
 }
 
@@ -327,7 +363,7 @@ fn row_13_inverse_of_zero() {
     }
 }
 
-/// One way for each of the conditions 1 to 8, so placed in book A with its
+/// One way for each of the conditions 1 to 8, so placed in the book with
 /// four dual words that any two stand together.
 fn with_fault(mut book: Vec<u8>, fault: u8) -> Vec<u8> {
     match fault {
@@ -338,7 +374,7 @@ fn with_fault(mut book: Vec<u8>, fault: u8) -> Vec<u8> {
         5 => book[4..8].copy_from_slice(&symbols("1010")),
         6 => book[69] = 8,
         7 => book[263..270].copy_from_slice(&symbols("1101000")),
-        8 => book.copy_within(71..134, 135),
+        8 => book[135..142].copy_from_slice(&symbols("1100011")),
         _ => panic!("no such fault"),
     }
     book
@@ -347,15 +383,15 @@ fn with_fault(mut book: Vec<u8>, fault: u8) -> Vec<u8> {
 #[test]
 fn of_two_faults_the_smaller_number_is_returned() {
     for one in 1..=8 {
-        refused_book(&with_fault(a_with_four(), one), one);
+        refused_book(&with_fault(with_four(), one), one);
         for other in one + 1..=8 {
-            let book = with_fault(with_fault(a_with_four(), other), one);
+            let book = with_fault(with_fault(with_four(), other), one);
             refused_book(&book, one);
             // Both stand: without the smaller, the larger is returned.
-            refused_book(&with_fault(a_with_four(), other), other);
+            refused_book(&with_fault(with_four(), other), other);
         }
     }
-    let mut book = a_with_four();
+    let mut book = with_four();
     for fault in (1..=8).rev() {
         book = with_fault(book, fault);
         refused_book(&book, fault);
@@ -364,14 +400,14 @@ fn of_two_faults_the_smaller_number_is_returned() {
 
 #[test]
 fn condition_4_is_looked_for_over_the_whole_book_before_5() {
-    let book = with_fault(a_with_four(), 5);
+    let book = with_fault(with_four(), 5);
     refused_book(&set(book, 263 + 6, 2), 4);
 }
 
 #[test]
 fn condition_7_is_looked_for_over_the_whole_book_before_8() {
-    // Words 0 and 1 are equal, word 3 is no dual word.
-    let book = with_fault(a_with_four(), 8);
+    // Word 1 is word 0 turned, word 3 is no dual word.
+    let book = with_fault(with_four(), 8);
     refused_book(&with_fault(book, 7), 7);
 }
 

@@ -1,5 +1,6 @@
 //! Faults put into a codebook, by the number of the condition to be met.
 
+mod copy;
 mod dual_word;
 
 use super::random::Random;
@@ -50,7 +51,7 @@ pub fn damage(book: &mut Vec<u8>, fault: u8, random: &mut Random) {
         5 => generator(&mut book, random),
         6 => limit(&mut book, random),
         7 => dual_word::damage(&mut book, random),
-        8 => equal(&mut book, random),
+        8 => copy::damage(&mut book, random),
         _ => {}
     }
 }
@@ -187,16 +188,4 @@ fn limit(book: &mut Book, random: &mut Random) {
         let large = random.between(book.n + 1, 255) as u8;
         book.bytes[LIMITS + 1] = *random.pick(&[0, large]);
     }
-}
-
-/// Fault 8: any dual word in the place of any other, or one added.
-fn equal(book: &mut Book, random: &mut Random) {
-    let one = random.between(0, book.count - 1);
-    let from = DUAL_WORDS + 64 * one;
-    if book.count == 1 {
-        return book.bytes.extend_from_within(from - 1..from + 63);
-    }
-    let other = (one + random.between(1, book.count - 1)) % book.count;
-    let to = DUAL_WORDS + 64 * other;
-    book.bytes.copy_within(from..from + 63, to);
 }

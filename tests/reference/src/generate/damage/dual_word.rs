@@ -1,6 +1,7 @@
 //! Fault 7: place 0, the product with g, or the weight of any dual word.
 
-use super::{Book, Random, DUAL_WORDS, GENERATOR};
+use super::{copy, Book, Random, DUAL_WORDS, GENERATOR};
+use crate::generate::copies::from_place;
 use crate::word;
 
 /// How often a word that meets all but one condition is looked for.
@@ -9,10 +10,11 @@ const TRIES: usize = 32;
 /// One of the three conditions of a dual word broken, the others left to
 /// hold where the code has a word for it.
 pub fn damage(book: &mut Book, random: &mut Random) {
-    match random.below(3) {
+    match random.below(4) {
         0 => place_0(book, random),
         1 => product(book, random),
-        _ => weight(book, random),
+        2 => weight(book, random),
+        _ => scaled_copy(book, random),
     }
 }
 
@@ -43,6 +45,19 @@ fn place_0(book: &mut Book, random: &mut Random) {
             symbol => symbol,
         };
     }
+}
+
+/// A dual word and the same times a symbol other than 1, which takes a third
+/// symbol. The two are alike, but place 0 is looked at before that.
+fn scaled_copy(book: &mut Book, random: &mut Random) {
+    let q = book.field.q();
+    if q == 2 {
+        return place_0(book, random);
+    }
+    let one = random.between(0, book.count - 1);
+    let word = copy::dual_word(book, one);
+    let scaled = word::scale(book.field, &word, random.symbol(2, q));
+    copy::put(book, one, &scaled, random);
 }
 
 /// The product with g not zero: other nonzero symbols at other places if
@@ -92,12 +107,11 @@ fn weight(book: &mut Book, random: &mut Random) {
         let Some(place) = multiple.iter().position(|&symbol| symbol != 0) else {
             continue;
         };
-        let Some(inverse) = field.inverse(multiple[place]) else {
+        let Some(multiple) = from_place(field, &multiple, place) else {
             continue;
         };
         if word::weight(&multiple) != weight {
-            let turned = word::turn(&multiple, n - place);
-            return word.copy_from_slice(&word::scale(field, &turned, inverse));
+            return word.copy_from_slice(&multiple);
         }
     }
     let place = random.between(1, n - 1);
