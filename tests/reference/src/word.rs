@@ -26,13 +26,15 @@ pub fn add(field: Field, a: &[u8], b: &[u8]) -> Vec<u8> {
 }
 
 /// Two words are "alike when one is a nonzero symbol times a turn of the
-/// other". Every turn and every nonzero symbol is tried, each product until
-/// a place differs. From `b` alone: what leads there leads back.
+/// other". Every turn is tried, with the one symbol that is right at a place
+/// where `a` is not zero. From `b` alone: what leads there leads back.
 pub fn alike(field: Field, a: &[u8], b: &[u8]) -> bool {
+    let place = a.iter().position(|&symbol| symbol != 0).unwrap_or(0);
     (0..b.len()).any(|t| {
         let turned = turn(b, t);
-        let times = |c| turned.iter().map(move |&symbol| field.product(symbol, c));
-        (1..field.q()).any(|c| times(c).eq(a.iter().copied()))
+        let right = |c: u8, j: usize| field.product(turned[j], c) == a[j];
+        let factor = (1..field.q()).find(|&c| right(c, place));
+        factor.is_some_and(|c| (0..a.len()).all(|j| right(c, j)))
     })
 }
 
