@@ -1,12 +1,13 @@
 //! The ways of damage, so that a test can tell that it met every one.
 
 use reference::field::Field;
+use reference::generate::likeness;
 use reference::word;
 
 use crate::draw::Book;
 
 /// All the ways in which a codebook can meet a condition.
-pub const WAYS: [&str; 31] = [
+pub const WAYS: [&str; 37] = [
     "1 empty",
     "1 short",
     "1 no dual word",
@@ -36,8 +37,14 @@ pub const WAYS: [&str; 31] = [
     "7 later product",
     "7 first weight",
     "7 later weight",
-    "8 added",
-    "8 replaced",
+    "7 scaled copy added",
+    "7 scaled copy replaced",
+    "8 equal copy added",
+    "8 equal copy replaced",
+    "8 turned copy added",
+    "8 turned copy replaced",
+    "8 turned and scaled copy added",
+    "8 turned and scaled copy replaced",
 ];
 
 /// In which way an accepted codebook was damaged so that the condition holds.
@@ -79,9 +86,8 @@ pub fn way(book: &Book, fault: u8, damaged: &[u8]) -> String {
             (false, d) if (1..=n).contains(&d.into()) => "I",
             (false, _) => "both",
         },
-        7 => return format!("7 {}", dual_word_way(book.parts.field(), n, damaged)),
-        _ if damaged.len() > 70 + 64 * l => "added",
-        _ => "replaced",
+        7 => return format!("7 {}", dual_word_way(book.parts.field(), n, l, damaged)),
+        _ => return format!("8 {}", copy_way(book.parts.field(), n, l, damaged)),
     };
     format!("{fault} {way}")
 }
@@ -91,9 +97,26 @@ fn bodies(book: &[u8]) -> impl Iterator<Item = &[u8]> {
     book[70..].chunks(64).map(|record| &record[1..])
 }
 
+/// In which way one dual word is a copy of another, and whether it came in
+/// the place of another one.
+fn copy_way(field: Field, n: usize, l: usize, damaged: &[u8]) -> String {
+    let words: Vec<&[u8]> = bodies(damaged).map(|body| &body[..n]).collect();
+    let copy = (0..words.len())
+        .flat_map(|one| (0..one).map(move |other| (one, other)))
+        .find(|&(one, other)| word::alike(field, words[one], words[other]))
+        .and_then(|(one, other)| likeness(field, words[one], words[other]));
+    let added = if words.len() > l { "added" } else { "replaced" };
+    format!("{} copy {added}", copy.unwrap_or("no"))
+}
+
 /// Which of the conditions of a dual word fails, in the first one or in a
-/// later one. Of two weights either may be the wrong one: the later.
-fn dual_word_way(field: Field, n: usize, damaged: &[u8]) -> String {
+/// later one, or that it is a scaled copy. Of two weights either may be the
+/// wrong one: the later.
+fn dual_word_way(field: Field, n: usize, l: usize, damaged: &[u8]) -> String {
+    let copy = copy_way(field, n, l, damaged);
+    if copy.starts_with("scaled") {
+        return copy;
+    }
     let words: Vec<&[u8]> = bodies(damaged).map(|body| &body[..n]).collect();
     let product = |b: &[u8]| word::weight(&word::product(field, b, &damaged[4..4 + n]));
     let which = |index| if index == 0 { "first" } else { "later" };
