@@ -26,15 +26,15 @@ pub fn add(field: Field, a: &[u8], b: &[u8]) -> Vec<u8> {
 }
 
 /// Two words are "alike when one is a nonzero symbol times a turn of the
-/// other". Every turn is tried, with the one symbol that is right at a place
-/// where `a` is not zero. From `b` alone: what leads there leads back.
+/// other": every turn, which "moves place j to (j + t) mod n", and every
+/// nonzero symbol is tried. Such a product is zero where the turned word is,
+/// and nowhere else, so that most turns need no product to be told.
 pub fn alike(field: Field, a: &[u8], b: &[u8]) -> bool {
-    let place = a.iter().position(|&symbol| symbol != 0).unwrap_or(0);
-    (0..b.len()).any(|t| {
-        let turned = turn(b, t);
-        let right = |c: u8, j: usize| field.product(turned[j], c) == a[j];
-        let factor = (1..field.q()).find(|&c| right(c, place));
-        factor.is_some_and(|c| (0..a.len()).all(|j| right(c, j)))
+    let n = b.len();
+    (0..n).any(|t| {
+        let pairs = || (0..n).map(|j| (a[(j + t) % n], b[j]));
+        pairs().all(|(x, y)| (x == 0) == (y == 0))
+            && (1..field.q()).any(|c| pairs().all(|(x, y)| x == field.product(c, y)))
     })
 }
 
