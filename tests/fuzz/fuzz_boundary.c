@@ -27,7 +27,7 @@ uint32_t reference_remainder(const uint8_t *book, size_t book_len, const uint8_t
 uint32_t reference_decode(const uint8_t *book, size_t book_len, const uint8_t *received, size_t received_len, uint8_t *answer, size_t answer_len);
 size_t reference_shelf(size_t number, uint8_t *book);
 
-enum { RECORD = 64, MOST_BOOK = 2600, LARGEST = 63, MOST_SHELF = 256, ROOM = 4096 };
+enum { RECORD = 64, MOST_BOOK = 2600, LARGEST = 63, MOST_SHELF = 256, ROOM = 4096, SEEDS_EACH = 3 };
 
 /* Where the parts of a codebook lie. */
 enum { AT_S = 1, AT_P = 2, AT_G = 4, AT_I = 68, AT_D = 69, AT_RECORDS = 70 };
@@ -82,18 +82,19 @@ static uint8_t any(struct input *input)
 
 struct shape {
     size_t n, k;
-    unsigned q;
+    unsigned q, p;
 };
 
 static struct shape shape_of(const struct bytes *book)
 {
-    struct shape shape = {7, 4, 2};
+    struct shape shape = {7, 4, 2, 1};
     size_t place, degree = 0;
     unsigned s = book->at[AT_S], p = book->at[AT_P];
     if (book->len < AT_RECORDS || s < 2 || s > 6 || p < 1 || p > 6)
         return shape;
     shape.n = ((size_t)1 << s) - 1;
     shape.q = 1u << p;
+    shape.p = p;
     for (place = 0; place < shape.n; place++)
         if (book->at[AT_G + place] != 0)
             degree = place;
@@ -129,14 +130,82 @@ static void append(struct bytes *book, const uint8_t *from, size_t len)
     book->len += len;
 }
 
-/* A dual word turned, so that its symbol at another place comes to place 0. It stays one where that symbol is 1. */
-static void turn(uint8_t *word, size_t n, size_t by)
+/* --- Dual words that are alike. --- */
+
+static uint8_t product(unsigned p, unsigned a, unsigned b)
 {
-    uint8_t turned[LARGEST];
-    size_t place;
-    for (place = 0; place < n; place++)
-        turned[place] = word[(place + by) % n];
-    memcpy(word, turned, n);
+    static const unsigned polynomials[] = {0, 0, 7, 11, 19, 37, 91};
+    const unsigned q = 1u << p;
+    unsigned r = 0;
+    a %= q;
+    for (b %= q; b > 0; b >>= 1) {
+        r ^= b & 1 ? a : 0;
+        a <<= 1;
+        a ^= a >= q ? polynomials[p] : 0;
+    }
+    return (uint8_t)r;
+}
+
+/* 0 for a symbol that has none. */
+static uint8_t inverse(unsigned p, unsigned a)
+{
+    unsigned b = (1u << p) - 1;
+    while (b > 0 && product(p, a, b) != 1)
+        b--;
+    return (uint8_t)b;
+}
+
+enum { EQUAL, TURNED, TURNED_AND_SCALED, UNLIKE };
+
+/* The fewest of turning and scaling that make b of a, a word with 1 at place 0. */
+static int likeness(const uint8_t *a, const uint8_t *b, struct shape shape)
+{
+    int best = UNLIKE, way;
+    size_t by, place;
+    for (by = 0; by < shape.n; by++) {
+        const uint8_t c = inverse(shape.p, b[by]);
+        for (place = 0; place < shape.n && c != 0 && a[place] == product(shape.p, c, b[(place + by) % shape.n]); place++)
+            continue;
+        way = place < shape.n ? UNLIKE : c != 1 ? TURNED_AND_SCALED : by != 0 ? TURNED : EQUAL;
+        best = way < best ? way : best;
+    }
+    return best;
+}
+
+/* The fewest that make one dual word of another; no dual word is looked at that is not 1 at place 0. */
+static int copied(const uint8_t *book, size_t len, struct shape shape)
+{
+    int best = UNLIKE, way;
+    const uint8_t *one, *other, *first = book + AT_RECORDS + 1;
+    for (one = first; one < book + len; one += RECORD)
+        for (other = first; other < one; other += RECORD) {
+            way = *one == 1 ? likeness(one, other, shape) : UNLIKE;
+            best = way < best ? way : best;
+        }
+    return best;
+}
+
+/* A dual word turned, so that a nonzero symbol comes to place 0, or not turned; multiplied, so that 1 comes to place 0, or by any symbol, or not. It is
+ * added, or comes in the place of any dual word, which may be the same one. */
+static void copy(struct bytes *book, uint8_t *one, size_t from, unsigned how)
+{
+    const struct shape shape = shape_of(book);
+    uint8_t made[RECORD];
+    size_t place, by = from % shape.n;
+    unsigned factor = 1;
+    memcpy(made, one, RECORD);
+    while (by < 2 * shape.n && one[1 + by % shape.n] == 0)
+        by++;
+    if (how / 2 % 4 == 1)
+        by = 0, factor = 1 + (unsigned)from % (shape.q - 1);
+    else if (how / 2 % 4 > 1)
+        factor = inverse(shape.p, one[1 + by % shape.n]);
+    for (place = 0; place < shape.n; place++)
+        made[1 + place] = product(shape.p, factor, one[1 + (place + by) % shape.n]);
+    if (how % 2 == 0)
+        append(book, made, RECORD);
+    else
+        memcpy(record(book, how / 8), made, RECORD);
 }
 
 static void edit(struct bytes *book, struct input *input)
@@ -179,7 +248,7 @@ static void edit(struct bytes *book, struct input *input)
             book->at[AT_D] = (uint8_t)(1 + (at >> 8) % shape.n);
         }
         break;
-    case 6: /* a dual word twice */
+    case 6: /* a dual word added once more */
         if (one != NULL)
             append(book, one, RECORD);
         break;
@@ -194,12 +263,9 @@ static void edit(struct bytes *book, struct input *input)
             memcpy(other, held, RECORD);
         }
         break;
-    case 9: /* a dual word turned, or a turned one added */
-        if (one != NULL && value % 2 == 0)
-            append(book, one, RECORD);
-        one = record(book, value % 2 == 0 ? (unsigned)(book->len / RECORD) - 2 : (unsigned)(at & 255));
+    case 9: /* a copy of a dual word */
         if (one != NULL)
-            turn(one + 1, shape.n, at >> 8);
+            copy(book, one, at >> 8, value);
         break;
     default: /* a dual word of another codebook */
         append(book, record(&shelf[at % books], value), RECORD);
@@ -408,6 +474,33 @@ __attribute__((no_sanitize("address"))) static uint32_t faulty_remainder(const c
     return result;
 }
 
+/* The faults that condition 8 could have, made of a right result. */
+static uint32_t faulty_copies(const char *fault, uint32_t result)
+{
+    struct bytes book;
+    struct shape shape;
+    size_t count = (book_area.len - AT_RECORDS) / RECORD, place, same = 0;
+    const uint8_t *one = book_area.buffer + AT_RECORDS + 1;
+    if (book_area.len < AT_RECORDS + RECORD || (result != 8 && SHIFTSUM_REFUSAL(result) != 0))
+        return result;
+    memcpy(book.at, book_area.buffer, book_area.len);
+    book.len = book_area.len;
+    shape = shape_of(&book);
+    if (result == 8) {
+        const int way = copied(book.at, book.len, shape);
+        if (strcmp(fault, "equal") == 0 && way != EQUAL)
+            return (uint32_t)count << 8;
+        if (strcmp(fault, "turns") == 0 && way == TURNED_AND_SCALED)
+            return (uint32_t)count << 8;
+        return result;
+    }
+    for (place = 0; place < shape.n && count > 1; place++)
+        same += (one[place] == 0) == (one[RECORD + place] == 0);
+    if ((strcmp(fault, "weights") == 0 && count > 1) || (strcmp(fault, "supports") == 0 && same == shape.n))
+        return 8;
+    return result;
+}
+
 /* The faults that a library could have. They are done as the archive would do them, unseen by the sanitizer. */
 __attribute__((no_sanitize("address"))) static uint32_t faulty(int which, uint32_t result)
 {
@@ -418,6 +511,8 @@ __attribute__((no_sanitize("address"))) static uint32_t faulty(int which, uint32
         return result;
     if (which == REMAINDER)
         return faulty_remainder(fault, result);
+    if (which == CHECK)
+        result = faulty_copies(fault, result);
     if (strcmp(fault, "refusal") == 0 && which == CHECK && result == 7)
         return 8;
     if (strcmp(fault, "count") == 0 && which == CHECK && SHIFTSUM_DUAL_WORDS(result) > 3)
@@ -453,8 +548,9 @@ __attribute__((no_sanitize("address"))) static uint32_t faulty(int which, uint32
 #define faulty(which, result) (result)
 #endif
 
-/* How many calls of each function had each result, for decode the kinds; and those of decode that took two rounds or more. */
-static unsigned long calls[FUNCTIONS], accepted[FUNCTIONS], refused[FUNCTIONS][256], kinds[128], later[128], left_out;
+/* How many calls of each function had each result, for decode the kinds; those of decode that took two rounds or more; and those of check with
+ * result 8 by the copy that the codebook had. */
+static unsigned long calls[FUNCTIONS], accepted[FUNCTIONS], refused[FUNCTIONS][256], kinds[128], later[128], copies[UNLIKE + 1], left_out;
 
 /* What libFuzzer takes as new ground beside the branches of this file: results not seen before, by the codebook's s and p. */
 enum { SEEN = 1 << 15 };
@@ -468,6 +564,8 @@ static void count(int which, uint32_t result, const struct bytes *book)
     if (number != 0) {
         refused[which][number]++;
         seen[mark * 16 + number % 16] = 1;
+        if (which == CHECK && number == 8)
+            copies[copied(book->at, book->len, shape_of(book))]++;
         return;
     }
     accepted[which]++;
@@ -606,36 +704,44 @@ static void print_counts(void)
         printf("\n");
     }
     printf("%-9s %9lu %9s %7s %7lu %7lu %7lu\n", "later", later['M'] + later['S'] + later['X'], "-", "-", later['M'], later['S'], later['X']);
+    printf("copies    equal %lu turned %lu turned-and-scaled %lu\n", copies[EQUAL], copies[TURNED], copies[TURNED_AND_SCALED]);
     printf("calls: %lu; decodes left out as too slow: %lu\n", all, left_out);
     fflush(stdout);
 }
 
-/* Writes inputs to start from: for every codebook of the shelf one that names it, and for some one that has its bytes. */
+/* An input to start from: no edits or one, the exact sizes, and a code word with none to four errors. */
+static void write_seed(const char *folder, size_t number, const uint8_t *start, size_t start_len, const struct bytes *book, int copied_too)
+{
+    const uint8_t drawn = (uint8_t)(number / SEEDS_EACH), none[] = {0};
+    /* Edit 9: the copy of a dual word that is added, turned by what is drawn and multiplied so that 1 is at place 0. */
+    const uint8_t added[] = {1, 9, drawn, (uint8_t)(1 + drawn), 4};
+    const uint8_t rest[] = {drawn, drawn, 0, 0, 0, 0, 0, 0, drawn, 1, 0, (uint8_t)(drawn % 5 * 8)};
+    char name[4096];
+    FILE *file;
+    snprintf(name, sizeof name, "%s/%zu", folder, number);
+    file = fopen(name, "wb");
+    if (file == NULL)
+        stop(name);
+    fwrite(start, 1, start_len, file);
+    fwrite(book->at, 1, book->len, file);
+    fwrite(copied_too ? added : none, 1, copied_too ? sizeof added : sizeof none, file);
+    fwrite(rest, 1, sizeof rest, file);
+    if (fclose(file) != 0)
+        stop(name);
+}
+
+/* For every codebook of the shelf an input that names it, one that has a copy of a dual word added, and for some one that has its bytes. */
 static void write_seeds(const char *folder)
 {
+    static const struct bytes nothing;
     size_t number;
-    for (number = 0; number < 2 * books; number++) {
-        const struct bytes *book = &shelf[number / 2];
-        const uint8_t drawn = (uint8_t)(number / 2), whole[] = {WHOLE, (uint8_t)(book->len & 255), (uint8_t)(book->len >> 8)}, named[] = {0, drawn};
-        /* No edits, the exact sizes, and a code word with none to four errors. */
-        const uint8_t rest[] = {0, drawn, drawn, 0, 0, 0, 0, 0, 0, drawn, 1, 0, (uint8_t)(drawn % 5 * 8)};
-        char name[4096];
-        FILE *file;
-        if (number % 2 == 1 && drawn % 8 != 0)
-            continue;
-        snprintf(name, sizeof name, "%s/%zu", folder, number);
-        file = fopen(name, "wb");
-        if (file == NULL)
-            stop(name);
-        if (number % 2 == 0) {
-            fwrite(named, 1, sizeof named, file);
-        } else {
-            fwrite(whole, 1, sizeof whole, file);
-            fwrite(book->at, 1, book->len, file);
-        }
-        fwrite(rest, 1, sizeof rest, file);
-        if (fclose(file) != 0)
-            stop(name);
+    for (number = 0; number < books; number++) {
+        const struct bytes *book = &shelf[number];
+        const uint8_t whole[] = {WHOLE, (uint8_t)(book->len & 255), (uint8_t)(book->len >> 8)}, named[] = {0, (uint8_t)number};
+        write_seed(folder, SEEDS_EACH * number, named, sizeof named, &nothing, 0);
+        write_seed(folder, SEEDS_EACH * number + 1, named, sizeof named, &nothing, 1);
+        if (number % 8 == 0)
+            write_seed(folder, SEEDS_EACH * number + 2, whole, sizeof whole, book, 0);
     }
 }
 
