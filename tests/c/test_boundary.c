@@ -195,6 +195,16 @@ static const uint8_t *with(const uint8_t *book, size_t at, uint8_t byte)
     return copy;
 }
 
+/* A copy of a codebook with another generator and two dual words. */
+static void two_dual_words(uint8_t *copy, const uint8_t *book, const char *g, const char *one, const char *other)
+{
+    memcpy(copy, book, BOOK);
+    memcpy(copy + BOOK, book + AT_DUAL_WORD - 1, RECORD);
+    symbols(copy + AT_G, g);
+    symbols(copy + AT_DUAL_WORD, one);
+    symbols(copy + BOOK + 1, other);
+}
+
 static void test_macros(void)
 {
     const uint32_t all = 0x4d3f2001u;
@@ -226,11 +236,12 @@ static void test_check(void)
     take_back(lent);
     expect_number("book B", "the result", shiftsum_check(book_b, BOOK), 0x100);
     expect_number("book C", "the result", shiftsum_check(book_c, BOOK), 0x100);
-    /* A second dual word: the first one turned by 4. */
-    memcpy(book, book_a, BOOK);
-    memcpy(book + BOOK, book_a + AT_DUAL_WORD - 1, RECORD);
-    symbols(book + BOOK + 1, "1001110");
-    expect_number("book A with two dual words", "the result", shiftsum_check(book, sizeof book), 0x200);
+    /* Two dual words for a generator that takes all words of even weight: mirror images, which are not alike. */
+    two_dual_words(book, book_a, "1111111", "1110100", "1110010");
+    expect_number("two mirror images", "the result", shiftsum_check(book, sizeof book), 0x200);
+    /* Over GF(4): the same places, and no turn with a factor makes one of the other. */
+    two_dual_words(book, book_b, "111", "123", "132");
+    expect_number("two words with the same places", "the result", shiftsum_check(book, sizeof book), 0x200);
 }
 
 static void test_cases(void)
@@ -301,7 +312,7 @@ static void refused(const char *name, const uint8_t *book, size_t book_len, uint
 
 static void test_refused_codebooks(void)
 {
-    uint8_t book[BOOK + RECORD];
+    uint8_t book[BOOK];
     refused("refusal 1: 133 bytes", book_a, 133, 1);
     refused("refusal 1: no bytes", book_a, 0, 1);
     refused("refusal 2: first byte 2", with(book_a, AT_KIND, 2), BOOK, 2);
@@ -317,9 +328,22 @@ static void test_refused_codebooks(void)
     memcpy(book, book_a, BOOK);
     symbols(book + AT_DUAL_WORD, "1101000");
     refused("refusal 7: dual word 1101000", book, BOOK, 7);
-    memcpy(book, book_a, BOOK);
-    memcpy(book + BOOK, book_a + AT_DUAL_WORD - 1, RECORD);
+}
+
+/* Two dual words that are alike, as one is a nonzero symbol times a turn of the other. */
+static void test_alike_dual_words(void)
+{
+    uint8_t book[BOOK + RECORD];
+    two_dual_words(book, book_b, "231", "120", "103");
+    refused("refusal 8: turned and multiplied", book, sizeof book, 8);
+    two_dual_words(book, book_b, "231", "103", "120");
+    refused("refusal 8: turned and multiplied, the other way round", book, sizeof book, 8);
+    two_dual_words(book, book_b, "231", "120", "310");
+    refused("refusal 7: multiplied alone", book, sizeof book, 7);
+    two_dual_words(book, book_a, "1101", "1110100", "1110100");
     refused("refusal 8: the dual word twice", book, sizeof book, 8);
+    two_dual_words(book, book_a, "1101", "1110100", "1101001");
+    refused("refusal 8: turned", book, sizeof book, 8);
     /* Of two the smaller. */
     book[AT_D] = 8;
     refused("refusals 6 and 8", book, sizeof book, 6);
@@ -431,6 +455,7 @@ int main(void)
     test_cases();
     test_remainder();
     test_refused_codebooks();
+    test_alike_dual_words();
     test_refused_calls();
     test_largest();
     test_longest_remainder();
