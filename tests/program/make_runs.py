@@ -44,12 +44,17 @@ def stdin(book_, *words):
 
 EXAMPLE = ("1000000", "1100000", "1101000")
 
-# One symbol in all places, 63 of them: g is 1 + x + .. + x^62. The dual words have 1 at place 0 and at one of the places 1 to 32.
-ALIKE_63 = [bytes([1] + [0] * (place - 1) + [1]) for place in range(1, 33)]
+# One symbol in all places, 63 of them: g is 1 + x + .. + x^62. The dual words have 1 at place 0 and at one of the places 1 to 31; with a place from 32
+# on they would be the same ones, turned.
+TWO_63 = [bytes([1] + [0] * (place - 1) + [1]) for place in range(1, 32)]
+
+# 32 dual words, with 1 at the places 0, 1 and 2 and at one of the places 3 to 34. The fourth is at another distance from the other three each time, so
+# that none is another one turned.
+FOUR_63 = [bytes([1, 1, 1] + [0] * (place - 3) + [1]) for place in range(3, 35)]
 
 
-def alike_63(p):
-    return book(6, p, bytes([1] * 63), 3, 1, ALIKE_63)
+def one_symbol_63(p, dual_words=TWO_63):
+    return book(6, p, bytes([1] * 63), 3, 1, dual_words)
 
 
 def wrong(symbol, place, error):
@@ -58,6 +63,9 @@ def wrong(symbol, place, error):
 
 
 RECORD_A = a()[70:134]
+
+# A code word, two with an error, one with a bad symbol, and one cut short.
+WORDS_63 = (b"\x3f" * 63, wrong(0x3F, 5, 0x15), wrong(0x00, 62, 0x2A), wrong(0x10, 62, 0x40 ^ 0x10), b"\x0a" * 62)
 
 RUNS = {
     # The scope's example, and its cases that are decodes.
@@ -80,6 +88,8 @@ RUNS = {
     "refusal_6": stdin(a(d=8), *EXAMPLE),
     "refusal_7": stdin(a(dual_words=["1101000"]), *EXAMPLE),
     "refusal_8": stdin(a(dual_words=["1110100"] * 2), *EXAMPLE),
+    "refusal_8_turned": stdin(a(dual_words=["1110100", "1101001"]), *EXAMPLE),
+    "refusal_8_turned_and_scaled": stdin(book(2, 2, word("231"), 3, 1, [word("120"), word("103")]), "120", "111"),
     "refusals_3_6_and_8": stdin(a(p=2, d=8, dual_words=["1110100"] * 2), *EXAMPLE),
     "refusals_6_and_8": stdin(a(d=8, dual_words=["1110100"] * 2), *EXAMPLE),
     "refusal_8_no_words": stdin(a(dual_words=["1110100"] * 2)),
@@ -113,8 +123,9 @@ RUNS = {
     "bad_symbols": stdin(a(), "2000000", "1000000", "0000002", "9999999", "1100000", "1101000", b"\xff" * 7, "0001000"),
     "bad_symbol_then_cut_word": stdin(a(), "1101000", "0200000", "110"),
     # Words of 63 symbols, and a codebook of 2118 bytes.
-    "n_63_p_6": stdin(alike_63(6), b"\x3f" * 63, wrong(0x3F, 5, 0x15), wrong(0x00, 62, 0x2A), wrong(0x10, 62, 0x40 ^ 0x10), b"\x0a" * 62),
-    "n_63_p_1": stdin(alike_63(1), b"\1" * 63, wrong(1, 0, 1), wrong(0, 31, 1), wrong(0, 62, 2), b"\1"),
+    "n_63_p_6": stdin(one_symbol_63(6), *WORDS_63),
+    "n_63_32_dual_words": stdin(one_symbol_63(6, FOUR_63), *WORDS_63),
+    "n_63_p_1": stdin(one_symbol_63(1), b"\1" * 63, wrong(1, 0, 1), wrong(0, 31, 1), wrong(0, 62, 2), b"\1"),
     "n_63_all_changed": stdin(book(6, 6, word("11"), 3, 63, [b"\1" * 63]), wrong(0x00, 17, 0x2A), bytes(63)),
 }
 

@@ -291,7 +291,7 @@ fn smaller(d: u8) -> Vec<u8> {
 
 /// Over GF(8), the code whose words have one symbol in all places; with the
 /// dual word 11.
-fn alike(i: u8, d: u8) -> Vec<u8> {
+fn one_symbol(i: u8, d: u8) -> Vec<u8> {
     books::write(3, 3, &[1; 7], i, d, &[symbols("11")])
 }
 
@@ -302,7 +302,7 @@ fn more_words_followed_by_hand() {
     followed(smaller(1), "1101000", ('S', 1, 0), "1101000");
     followed(smaller(7), "1101000", ('S', 1, 0), "1101000");
     // The count of row 0 alone keeps place 1 out.
-    followed(alike(3, 1), "0100230", ('S', 1, 0), "0100230");
+    followed(one_symbol(3, 1), "0100230", ('S', 1, 0), "0100230");
     // With the dual word 101 as well, the count of row 0 keeps place 2 out,
     // and that of the peaks places 5 and 6.
     let dual_words = ["11", "101"].map(symbols);
@@ -313,11 +313,11 @@ fn more_words_followed_by_hand() {
     book[69] = 3;
     followed(book, "120", ('S', 1, 0), "120");
     // Rounds by way of 0000230 to 0002233, whose update set is empty.
-    followed(alike(1, 4), "0100230", ('X', 1, 0), "0100230");
-    followed(alike(2, 4), "0100230", ('X', 2, 0), "0100230");
-    followed(alike(3, 4), "0100230", ('S', 3, 0), "0100230");
-    followed(alike(63, 4), "0100230", ('S', 3, 0), "0100230");
-    followed(alike(3, 3), "0100230", ('S', 2, 0), "0100230");
+    followed(one_symbol(1, 4), "0100230", ('X', 1, 0), "0100230");
+    followed(one_symbol(2, 4), "0100230", ('X', 2, 0), "0100230");
+    followed(one_symbol(3, 4), "0100230", ('S', 3, 0), "0100230");
+    followed(one_symbol(63, 4), "0100230", ('S', 3, 0), "0100230");
+    followed(one_symbol(3, 3), "0100230", ('S', 2, 0), "0100230");
     println!("decode, more words followed by hand: 10 tried");
 }
 

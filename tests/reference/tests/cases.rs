@@ -133,14 +133,14 @@ fn a_code_word_is_clean_and_its_matrix_all_zero() {
 /// Over GF(8), the code whose words have one symbol in all places. With the
 /// dual word 11 the check values at a place are its differences to the
 /// places before and after it, with 101 those to the second before and after.
-fn all_alike(i: u8, d: u8, dual_words: &[&str]) -> Vec<u8> {
+fn one_symbol(i: u8, d: u8, dual_words: &[&str]) -> Vec<u8> {
     let dual_words: Vec<Vec<u8>> = dual_words.iter().map(|b| symbols(b)).collect();
     books::write(3, 3, &[1; 7], i, d, &dual_words)
 }
 
 #[test]
 fn one_place_unlike_its_neighbours_is_mended() {
-    let book = all_alike(3, 1, &["11"]);
+    let book = one_symbol(3, 1, &["11"]);
     decodes(&book, "0100000", Kind::Mended, 1, 1, "0000000");
     decodes(&book, "5525555", Kind::Mended, 1, 1, "5555555");
 }
@@ -148,13 +148,13 @@ fn one_place_unlike_its_neighbours_is_mended() {
 #[test]
 fn count_of_row_0_alone_keeps_a_place_out() {
     // Place 1 has the one peak of 2, but places 4 and 5 have row 0 at 0 too.
-    let book = all_alike(3, 1, &["11"]);
+    let book = one_symbol(3, 1, &["11"]);
     decodes(&book, "0100230", Kind::Stalled, 1, 0, "0100230");
 }
 
 #[test]
 fn either_count_alone_keeps_a_place_out() {
-    let book = all_alike(3, 2, &["11", "101"]);
+    let book = one_symbol(3, 2, &["11", "101"]);
     let received = symbols("0010123");
     let mut entries = [u16::MAX; 56];
     assert_eq!(matrix(&book, &received, &mut entries), Ok(()));
@@ -176,7 +176,7 @@ fn a_shared_peak_alone_keeps_a_place_out() {
 #[test]
 fn later_rounds_start_from_the_updated_word() {
     // With D 4: 0100230, then 0000230, then 0002233, whose set is empty.
-    let book = |i| all_alike(i, 4, &["11"]);
+    let book = |i| one_symbol(i, 4, &["11"]);
     let received = "0100230";
     decodes_from(&book(1), received, received, (Kind::Spent, 1, 0), received);
     decodes_from(&book(2), received, "0000230", (Kind::Spent, 2, 0), received);
@@ -195,7 +195,7 @@ fn later_rounds_start_from_the_updated_word() {
         received,
     );
     // With D 3 the second word's set is empty: four places share its peak.
-    let book = all_alike(3, 3, &["11"]);
+    let book = one_symbol(3, 3, &["11"]);
     decodes_from(&book, received, "0000230", (Kind::Stalled, 2, 0), received);
 }
 
