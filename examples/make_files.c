@@ -5,10 +5,12 @@
  *
  * writes BOOKS/NAME.book and STREAM/NAME.in. `examples/run` makes them anew and compares them with the stored ones.
  *
- * a is book A of the scope, faulty_1 to faulty_8 its examples of the refusals 1 to 8. line15 and line63 are geometry codes. The places of a word
- * are the powers z^j of symbol 2 of GF(2^s), taken as the points other than 0 of the plane (s 4) or the space (s 6) over GF(4). A dual word marks the
- * points of a line that misses 0. Two points lie on one line only, so the check values at a place share no other place, and an error elsewhere
- * spoils at most one of them. There is a dual word for each class of lines under turning, and the code is the largest that all of them allow.
+ * a is book A of the scope, faulty_1 to faulty_8 its examples of the refusals 1 to 8, and faulty_8_turned an installer's book, with one word turned.
+ *
+ * line15 and line63 are geometry codes. The places of a word are the powers z^j of symbol 2 of GF(2^s), taken as the points other than 0 of the plane
+ * (s 4) or the space (s 6) over GF(4). A dual word marks the points of a line that misses 0. Two points lie on one line only, so the check values at a
+ * place share no other place, and an error elsewhere spoils at most one of them. There is a dual word for each class of lines under turning, and the
+ * code is the largest that all of them allow.
  */
 #include "shiftsum.h"
 
@@ -67,6 +69,13 @@ static void make_faulty(struct bytes *book, unsigned number)
     case 8: put(book, 4), put_body(book, "1110100"); break;
     default: break;
     }
+}
+
+/* Book A with its dual word and the same turned, which counts every check twice. */
+static void make_turned(struct bytes *book)
+{
+    make_a(book);
+    put(book, 4), put_body(book, "1101001");
 }
 
 /* Polynomials with coefficients 0 and 1 of degree 63 at most, bit j for x^j. */
@@ -238,5 +247,7 @@ int main(int argc, char **argv)
             save(argv[2], "faulty_book", "in", &stream);
         }
     }
+    make_turned(&book);
+    save_book(argv[1], "faulty_8_turned", &book, 8);
     return failures == 0 ? 0 : 1;
 }
