@@ -8,9 +8,9 @@
  * a is book A of the scope, faulty_1 to faulty_8 its examples of the refusals 1 to 8, and faulty_8_turned an installer's book, with one word turned.
  *
  * line15 and line63 are geometry codes. The places of a word are the powers z^j of symbol 2 of GF(2^s), taken as the points other than 0 of the plane
- * (s 4) or the space (s 6) over GF(4). A dual word marks the points of a line that misses 0. Two points lie on one line only, so the check values at a
- * place share no other place, and an error elsewhere spoils at most one of them. There is a dual word for each class of lines under turning, and the
- * code is the largest that all of them allow.
+ * (s 4) or the space (s 6) over GF(4). A dual word marks the points of a line that misses 0. Two points lie on one line only, so the check values at
+ * a place share no other place, and an error elsewhere spoils at most one of them. There is a dual word for each class of lines under turning, and
+ * the code is the largest that all of them allow.
  */
 #include "shiftsum.h"
 

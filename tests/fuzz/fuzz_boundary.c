@@ -185,8 +185,8 @@ static int copied(const uint8_t *book, size_t len, struct shape shape)
     return best;
 }
 
-/* A dual word turned, so that a nonzero symbol comes to place 0, or not turned; multiplied, so that 1 comes to place 0, or by any symbol, or not. It is
- * added, or comes in the place of any dual word, which may be the same one. */
+/* A dual word turned, so that a nonzero symbol comes to place 0, or not turned; multiplied, so that 1 comes to place 0, or by any symbol, or not. It
+ * is added, or comes in the place of any dual word, which may be the same one. */
 static void copy(struct bytes *book, uint8_t *one, size_t from, unsigned how)
 {
     const struct shape shape = shape_of(book);

@@ -44,12 +44,12 @@ def stdin(book_, *words):
 
 EXAMPLE = ("1000000", "1100000", "1101000")
 
-# One symbol in all places, 63 of them: g is 1 + x + .. + x^62. The dual words have 1 at place 0 and at one of the places 1 to 31; with a place from 32
-# on they would be the same ones, turned.
+# One symbol in all places, 63 of them: g is 1 + x + .. + x^62. The dual words have 1 at place 0 and at one of the places 1 to 31; with a place from
+# 32 on they would be the same ones, turned.
 TWO_63 = [bytes([1] + [0] * (place - 1) + [1]) for place in range(1, 32)]
 
-# 32 dual words, with 1 at the places 0, 1 and 2 and at one of the places 3 to 34. The fourth is at another distance from the other three each time, so
-# that none is another one turned.
+# 32 dual words, with 1 at the places 0, 1 and 2 and at one of the places 3 to 34. The fourth is at another distance from the other three each time,
+# so that none is another one turned.
 FOUR_63 = [bytes([1, 1, 1] + [0] * (place - 3) + [1]) for place in range(3, 35)]
 
 
