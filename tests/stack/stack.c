@@ -113,14 +113,20 @@ static unsigned power(unsigned exponent)
     return r;
 }
 
+static unsigned inverse(unsigned a)
+{
+    unsigned r = 1, j;
+    for (j = 0; j < 62; j++)
+        r = product(r, a);
+    return r;
+}
+
 /* The n values of y^2 + y + b at y = z^j, divided by the first; 0 where one of them is zero. */
 static int put_values(uint8_t *body, unsigned b)
 {
-    unsigned inverse = 1, j;
-    for (j = 0; j < 62; j++)
-        inverse = product(inverse, b);
+    unsigned j;
     for (j = 0; j < N; j++) {
-        body[j] = (uint8_t)product(inverse, power(2 * j % 63) ^ power(j) ^ b);
+        body[j] = (uint8_t)product(inverse(b), power(2 * j % 63) ^ power(j) ^ b);
         if (body[j] == 0)
             return 0;
     }
@@ -142,6 +148,17 @@ static void make_large(uint8_t *book)
         record[0] = 4;
         word += (unsigned)put_values(record + 1, b);
     }
+}
+
+/* The same with its first dual word once more as the last, turned by one place and divided by the symbol that comes to place 0. */
+static void make_late(uint8_t *book)
+{
+    const uint8_t *first = book + AT_DUAL_WORDS + 1;
+    uint8_t *last = book + LARGE - N;
+    unsigned j;
+    make_large(book);
+    for (j = 0; j < N; j++)
+        last[j] = (uint8_t)product(inverse(first[1]), first[(j + 1) % N]);
 }
 
 /* n 63 with symbols 0 and 1, g 1 + x + x^6, and D 63: every round turns all symbols over, and no round reaches a code word. */
@@ -166,9 +183,8 @@ int main(void)
     struct call alone = {"", nothing, large, sizeof large, 0, 0, 0, 0, 0};
     size_t thread_alone;
     make_large(large);
-    make_large(late);
+    make_late(late);
     make_long_run(long_run);
-    memcpy(late + sizeof late - RECORD, late + AT_DUAL_WORDS, RECORD);
     thread_alone = measure(&alone);
     input[0] = 1;
     test((struct call){"check, the first call of all", check, large, sizeof large, 0, 0, 0, 0, 0}, thread_alone);
