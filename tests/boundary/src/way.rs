@@ -97,16 +97,25 @@ fn bodies(book: &[u8]) -> impl Iterator<Item = &[u8]> {
     book[70..].chunks(64).map(|record| &record[1..])
 }
 
-/// In which way one dual word is a copy of another, and whether it came in
-/// the place of another one.
-fn copy_way(field: Field, n: usize, l: usize, damaged: &[u8]) -> String {
+/// The ways in which a dual word can be a copy that condition 8 finds.
+pub const COPIES: [&str; 3] = ["equal", "turned", "turned and scaled"];
+
+/// In which way one dual word is a copy of another.
+pub fn copy(field: Field, n: usize, damaged: &[u8]) -> Option<&'static str> {
     let words: Vec<&[u8]> = bodies(damaged).map(|body| &body[..n]).collect();
-    let copy = (0..words.len())
+    (0..words.len())
         .flat_map(|one| (0..one).map(move |other| (one, other)))
         .find(|&(one, other)| word::alike(field, words[one], words[other]))
-        .and_then(|(one, other)| likeness(field, words[one], words[other]));
-    let added = if words.len() > l { "added" } else { "replaced" };
-    format!("{} copy {added}", copy.unwrap_or("no"))
+        .and_then(|(one, other)| likeness(field, words[one], words[other]))
+}
+
+/// The same, and whether it came in the place of another dual word.
+fn copy_way(field: Field, n: usize, l: usize, damaged: &[u8]) -> String {
+    let added = match damaged.len() > 70 + 64 * l {
+        true => "added",
+        false => "replaced",
+    };
+    format!("{} copy {added}", copy(field, n, damaged).unwrap_or("no"))
 }
 
 /// Which of the conditions of a dual word fails, in the first one or in a

@@ -4,6 +4,7 @@
 use boundary::compare::{hex, Trial};
 use boundary::draw::{self, Book};
 use boundary::tally::Tally;
+use boundary::way::COPIES;
 use boundary::{refusal, Operation};
 use reference::books::{self, symbols};
 use reference::field::Field;
@@ -254,7 +255,7 @@ fn positions(s: u8, l: usize) -> impl Iterator<Item = (usize, usize)> {
 fn one_pair_at_every_two_positions() {
     let mut tally = Tally::new("check, one alike pair")
         .due("positions", ["first and last", "neighbours", "apart"])
-        .due("way", ["equal", "turned", "turned and scaled"])
+        .due("way", COPIES)
         .due("L", 2..=32)
         .due("s and p", SHAPES.map(|(s, p)| format!("{s} {p}")));
     for (s, p) in SHAPES {

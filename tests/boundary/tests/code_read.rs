@@ -4,6 +4,7 @@
 use boundary::compare::{hex, Trial};
 use boundary::draw::{self, Book};
 use boundary::tally::Tally;
+use boundary::way::{copy, COPIES};
 use boundary::{code, read, refusal, Operation};
 use reference::generate::{self, Random, SHAPES};
 
@@ -51,6 +52,11 @@ fn exact(operation: Operation, book: &Book) -> usize {
     }
 }
 
+/// In which way a codebook that 8 refuses has a copy.
+fn sort_of_copy(book: &Book, damaged: &[u8]) -> &'static str {
+    copy(book.parts.field(), book.parts.n(), damaged).expect("a copy")
+}
+
 /// Calls on accepted codebooks and on ones refused by each number.
 fn calls(operation: Operation, test: u8, tally: &mut Tally) {
     for (s, p) in SHAPES {
@@ -85,6 +91,7 @@ fn calls(operation: Operation, test: u8, tally: &mut Tally) {
                 }
                 match number {
                     0 => tally.count("accepted, s and p", format!("{s} {p}")),
+                    8 => tally.count("copy", sort_of_copy(&book, &bytes)),
                     9 if trial.input.is_empty() => tally.count("input", "empty"),
                     10 if size == 0 => tally.count("output", "empty"),
                     10 if size < exact => tally.count("output", "short"),
@@ -100,6 +107,7 @@ fn calls(operation: Operation, test: u8, tally: &mut Tally) {
 fn due(tally: Tally) -> Tally {
     tally
         .due("accepted, s and p", SHAPES.map(|(s, p)| format!("{s} {p}")))
+        .due("copy", COPIES)
         .due("output", ["short", "long", "empty"])
         .due("input", ["empty"])
 }

@@ -4,6 +4,7 @@
 use boundary::compare::{hex, Trial};
 use boundary::draw::{self, Book, Shelf};
 use boundary::tally::Tally;
+use boundary::way::{copy, COPIES};
 use boundary::{changed, decode, kind, refusal, rounds, Operation};
 use reference::books::{self, symbols};
 use reference::field::product;
@@ -215,7 +216,9 @@ fn every_word_of_small_codebooks() {
 
 #[test]
 fn refusals() {
-    let mut tally = Tally::new("decode, refusals").due("refusal", 1..=11);
+    let mut tally = Tally::new("decode, refusals")
+        .due("refusal", 1..=11)
+        .due("copy", COPIES);
     for (s, p) in SHAPES {
         let mut random = Random::new(draw::seed(5, s, p, u32::MAX));
         let shelf = Shelf::new(s, p, 30, &mut random);
@@ -224,9 +227,13 @@ fn refusals() {
             let mut random = Random::new(seed);
             let book = shelf.take(1 + random.below(4), 500_000, &mut random);
             let (n, q) = (book.parts.n(), book.parts.q());
-            for fault in 0..=11 {
+            for fault in (0..=11).chain([8, 8]) {
                 let mut damaged = book.clone();
                 generate::damage(&mut damaged.bytes, fault, &mut random);
+                if fault == 8 {
+                    let copy = copy(book.parts.field(), n, &damaged.bytes);
+                    tally.count("copy", copy.expect("a copy"));
+                }
                 let right = generate::damaged_code_word(&book.parts, 1, &mut random);
                 let received = match fault {
                     0 => right,
