@@ -5,7 +5,7 @@ use boundary::compare::{hex, Trial};
 use boundary::draw::{self, Book};
 use boundary::tally::Tally;
 use boundary::way::{copy, COPIES};
-use boundary::{code, read, refusal, Operation};
+use boundary::{code, read, refusal, Given, Operation};
 use reference::generate::{self, Random, SHAPES};
 
 /// How many codebooks of an s and p are drawn; those of s 6 take long.
@@ -57,6 +57,27 @@ fn sort_of_copy(book: &Book, damaged: &[u8]) -> &'static str {
     copy(book.parts.field(), book.parts.n(), damaged).expect("a copy")
 }
 
+/// Counts a call by its result, and by what was refused.
+fn count(trial: &Trial, given: &Given, book: &Book, tally: &mut Tally) {
+    let (s, p) = (book.parts.s(), book.parts.field().p());
+    let (number, size) = (refusal(given.result), trial.held.len());
+    tally.tried();
+    tally.count("result", number);
+    if number == 0 && trial.operation == Operation::Remainder {
+        let zero = given.output.iter().all(|&symbol| symbol == 0);
+        tally.count("remainder", if zero { "zero" } else { "not zero" });
+    }
+    match number {
+        0 => tally.count("accepted, s and p", format!("{s} {p}")),
+        8 => tally.count("copy", sort_of_copy(book, trial.book)),
+        9 if trial.input.is_empty() => tally.count("input", "empty"),
+        10 if size == 0 => tally.count("output", "empty"),
+        10 if size < exact(trial.operation, book) => tally.count("output", "short"),
+        10 => tally.count("output", "long"),
+        _ => {}
+    }
+}
+
 /// Calls on accepted codebooks and on ones refused by each number.
 fn calls(operation: Operation, test: u8, tally: &mut Tally) {
     for (s, p) in SHAPES {
@@ -83,21 +104,7 @@ fn calls(operation: Operation, test: u8, tally: &mut Tally) {
                 let number = refusal(given.result);
                 assert!(fault == 0 || number == fault, "{trial}");
                 assert!(operation == Operation::Read || number < 12, "{trial}");
-                tally.tried();
-                tally.count("result", number);
-                if number == 0 && operation == Operation::Remainder {
-                    let zero = given.output.iter().all(|&symbol| symbol == 0);
-                    tally.count("remainder", if zero { "zero" } else { "not zero" });
-                }
-                match number {
-                    0 => tally.count("accepted, s and p", format!("{s} {p}")),
-                    8 => tally.count("copy", sort_of_copy(&book, &bytes)),
-                    9 if trial.input.is_empty() => tally.count("input", "empty"),
-                    10 if size == 0 => tally.count("output", "empty"),
-                    10 if size < exact => tally.count("output", "short"),
-                    10 => tally.count("output", "long"),
-                    _ => {}
-                }
+                count(&trial, &given, &book, tally);
             }
         }
     }
