@@ -67,7 +67,8 @@ extern "C" {
  *      5  codebook: the generator                                                    check, code, read, remainder, decode
  *      6  codebook: I or D                                                           check, code, read, remainder, decode
  *      7  codebook: a dual word's place 0, product with g, or weight                 check, code, read, remainder, decode
- *      8  codebook: two dual words are equal                                         check, code, read, remainder, decode
+ *      8  codebook: two dual words are alike: one is a nonzero symbol times a turn   check, code, read, remainder, decode
+ *         of the other; so also two equal ones
  *      9  input: not k symbols (code), not n symbols (read, remainder, decode)              code, read, remainder, decode
  *     10  output: its length is not exact, n (code, decode), k (read), n - k (remainder)    code, read, remainder, decode
  *     11  input: a symbol of q or more                                                      code, read, remainder, decode
