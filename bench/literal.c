@@ -96,6 +96,25 @@ static int bad_dual_word(const Book *c, const uint8_t *b)
     return weight(c, sum) != 0;
 }
 
+/* Whether a is the factor times b turned by t. */
+static int is_turned(const Book *c, const uint8_t *a, const uint8_t *b, uint8_t factor, int t)
+{
+    for (int j = 0; j < c->n; j++)
+        if (a[(j + t) % c->n] != product(c->p, factor, b[j]))
+            return 0;
+    return 1;
+}
+
+/* "One is a nonzero symbol times a turn of the other": every factor, every turn. */
+static int alike(const Book *c, const uint8_t *a, const uint8_t *b)
+{
+    for (int factor = 1; factor < c->q; factor++)
+        for (int t = 0; t < c->n; t++)
+            if (is_turned(c, a, b, (uint8_t)factor, t))
+                return 1;
+    return 0;
+}
+
 /* Conditions 1 to 3, which tell how to read the rest. */
 static unsigned shape(Book *c, const uint8_t *book, size_t len)
 {
@@ -137,7 +156,7 @@ static unsigned refusal(Book *c, const uint8_t *book, size_t len)
             return 7;
     for (int l = 0; l < c->duals; l++)
         for (int k = 0; k < l; k++)
-            if (memcmp(dual_word(c, l), dual_word(c, k), (size_t)c->n) == 0)
+            if (alike(c, dual_word(c, l), dual_word(c, k)))
                 return 8;
     return 0;
 }
