@@ -25,6 +25,7 @@
 typedef uint8_t Vec __attribute__((vector_size(VB)));
 typedef uint8_t Loose __attribute__((vector_size(VB), aligned(1), may_alias));
 typedef int16_t Wide __attribute__((vector_size(VB), may_alias));
+typedef uint16_t Half __attribute__((vector_size(VB), may_alias));
 typedef uint64_t Quad __attribute__((vector_size(VB), may_alias));
 
 #define INLINE static inline __attribute__((always_inline))
@@ -301,23 +302,12 @@ INLINE int plain_products(const Fast *f, const uint8_t *g, const int vecs)
     return zero_below(left, f->k, vecs);
 }
 
-/* Asked only where two words have one hash. */
-static int two_equal(const Fast *f)
-{
-    for (int l = 0; l < f->duals; l++)
-        for (int k = 0; k < l; k++)
-            if (memcmp(f->book + AT_DUALS + 64 * l, f->book + AT_DUALS + 64 * k, 64) == 0)
-                return 1;
-    return 0;
-}
-
-/* Kind bytes, symbols, place 0 and weights of the dual words, and that no two have one hash. */
+/* Kind bytes, symbols, place 0 and weights of the dual words. */
 static int dual_words_fit(Fast *f)
 {
     uint8_t want[64] ALIGNED = {4, 1}, care[64] ALIGNED;
-    uint32_t hash[64];
     Vec bad = {0};
-    unsigned unlike = 0, same = 0;
+    unsigned unlike = 0;
     care[0] = 255;
     care[1] = 255;
     for (int j = 1; j < 63; j++)
@@ -325,25 +315,142 @@ static int dual_words_fit(Fast *f)
     for (int l = 0; l < f->duals; l++) {
         const uint8_t *record = f->book + AT_DUALS + 64 * l;
         Vec nonzero = {0};
-        uint64_t mixed = 0;
         for (int v = 0; v < WORD; v++) {
             Vec x = get(record + v * VB);
             bad |= (x ^ get(want + v * VB)) & get(care + v * VB);
             nonzero -= (Vec)(x != (Vec){0});
         }
-        for (int i = 0; i < 8; i++)
-            mixed += load64(record + 8 * i) * (0x9e3779b97f4a7c15u + 0x7f4a7c159e3779bau * (unsigned)i);
-        hash[l] = hash[l + 32] = (uint32_t)(mixed >> 32);
         unsigned weight = byte_sum(nonzero) - 1;
         f->weight = l ? f->weight : (int)weight;
         unlike |= weight ^ (unsigned)f->weight;
     }
+    return !any(bad) && !unlike;
+}
+
+/* The dual words' places again and again, as many as a turn by n - 1 reads. Nothing is read past a record. */
+INLINE void lay_rows(const Fast *f, uint8_t (*rows)[ROW], const int vecs)
+{
+    for (int l = 0; l < f->duals; l++) {
+        const uint8_t *word = f->book + AT_DUALS + 64 * l + 1;
+        for (int at = 0; at < f->n + vecs * VB - 1; at += f->n)
+            for (int v = 0; v < vecs; v++) {
+                int from = v < WORD - 1 ? v * VB : 63 - VB;
+                put(rows[l] + at + from, get(word + from));
+            }
+    }
+}
+
+/*
+ * A number for each dual word that neither a turn nor a factor changes: at each place a mark tells which of four other places have its symbol, and the
+ * squares of the marks are added up, below 65536. All rows are laid before any is read, since a load that spans two fresh stores waits.
+ */
+INLINE void signatures_in(const Fast *f, uint8_t (*rows)[ROW], uint16_t *out, const int vecs)
+{
+    static const uint8_t ends[2 * VB] = {[0 ... VB - 1] = 255};
+    int n = f->n;
+    Vec end = get(ends + vecs * VB - n);
+    for (int l = 0; l < f->duals; l++) {
+        const uint8_t *row = rows[l];
+        Wide sum = {0};
+        for (int v = 0; v < vecs; v++, row += VB) {
+            Vec x = get(row), m = (Vec)(x == get(row + 1)) & all(21);
+            m ^= (Vec)(x == get(row + (3 & n))) & all(7);
+            m ^= (Vec)(x == get(row + (7 & n))) & all(11);
+            m ^= (Vec)(x == get(row + (12 & n))) & all(26);
+            m &= v == vecs - 1 ? end : all(255);
+            Wide low = (Wide)m & 255, high = (Wide)((Half)m >> 8);
+            sum += low * low + high * high;
+        }
+        out[l] = (uint16_t)wide_sum(sum);
+    }
+}
+
+/* Where the rows of the inverses start. Zero has row 0. */
+static void inverse_rows(const Fast *f, uint16_t *at)
+{
+    uint8_t power[64];
+    int x = 1, last = f->q - 1;
+    for (int e = 0; e < last; e++) {
+        power[e] = (uint8_t)x;
+        x <<= 1;
+        x ^= x & f->q ? polynomials[f->p] : 0;
+    }
+    at[0] = 0;
+    at[1] = ROW;
+    for (int e = 1; e < last; e++)
+        at[power[e]] = (uint16_t)(power[last - e] * ROW);
+}
+
+/* Whether a comes before b, in any one order. */
+INLINE int before(const uint8_t *a, const uint8_t *b, int n)
+{
+    uint64_t x = load64(a), y = load64(b);
+    for (int j = 8; x == y && j < n; j += 8) {
+        x = load64(a + j);
+        y = load64(b + j);
+    }
+    return x < y;
+}
+
+/* The first of a word's turns and multiples with symbol 1 at place 0: words are alike if these are equal. Row 0 is after all of them. */
+static void normal_form(const Fast *f, const uint16_t *inverses, const uint8_t *row, uint8_t *form)
+{
+    uint8_t multiples[64 * ROW] ALIGNED;
+    const uint8_t *first = multiples + ROW;
+    memset(multiples, 255, ROW);
+    memcpy(multiples + ROW, row, ROW);
+    multiply(multiples, f->q, polynomials[f->p], 2 * f->vecs);
+    for (int k = 1; k < f->n; k++) {
+        const uint8_t *next = multiples + inverses[row[k]] + k;
+        if (before(next, first, f->n))
+            first = next;
+    }
+    memcpy(form, first, 64);
+}
+
+/* Exactly, among the words that share a signature. Places from n on go around, and are equal where those before are. */
+static int two_alike(const Fast *f, uint8_t (*rows)[ROW], const uint16_t *signature)
+{
+    uint8_t forms[32][64];
+    uint16_t inverses[64];
+    uint32_t formed = 0;
+    inverse_rows(f, inverses);
+    for (int l = 1; l < f->duals; l++)
+        for (int m = 0; m < l; m++) {
+            if (signature[l] != signature[m])
+                continue;
+            for (int i = 0; i < 2; i++) {
+                int w = i ? l : m;
+                if (!(formed >> w & 1))
+                    normal_form(f, inverses, rows[w], forms[w]);
+                formed |= (uint32_t)1 << w;
+            }
+            if (memcmp(forms[l], forms[m], (size_t)f->n) == 0)
+                return 1;
+        }
+    return 0;
+}
+
+/* Condition 8. */
+static int alike(const Fast *f)
+{
+    uint8_t rows[32][ROW] ALIGNED;
+    uint16_t signature[64];
+    unsigned same = 0;
+    switch (f->vecs) {
+    case 1: lay_rows(f, rows, 1); signatures_in(f, rows, signature, 1); break;
+#if VB == 16
+    case 2: lay_rows(f, rows, 2); signatures_in(f, rows, signature, 2); break;
+#endif
+    default: lay_rows(f, rows, WORD); signatures_in(f, rows, signature, WORD); break;
+    }
     for (int l = f->duals; l < 32; l++)
-        hash[l] = hash[l + 32] = (uint32_t)l;
+        signature[l] = (uint16_t)(65535 - l); /* the sums are below */
+    memcpy(signature + 32, signature, 64);
     for (int s = 1; s <= 16; s++)
         for (int l = 0; l < 32; l++)
-            same |= hash[l] == hash[l + s];
-    return !any(bad) && !unlike && !(same && two_equal(f));
+            same |= signature[l] == signature[l + s];
+    return same && two_alike(f, rows, signature);
 }
 
 INLINE int products_fit_in(const Fast *f, const uint8_t *g, const int vecs)
@@ -398,18 +505,20 @@ static int head_fits(Fast *f, const uint8_t *book, size_t len, uint8_t *g, uint8
     return quotient(f, g, h);
 }
 
-/* Whether the book is accepted at once. Where not, the transcription finds the number. */
-static int accept(Fast *f, const uint8_t *book, size_t len)
+/* Refusal 8 is found here, and any other number by the transcription. */
+static unsigned refusal(Fast *f, const uint8_t *book, size_t len)
 {
     uint8_t g[64], *h = f->h;
     if (!head_fits(f, book, len, g, h) || !dual_words_fit(f) || !products_fit(f, g))
-        return 0;
+        return literal_check(book, len);
+    if (f->duals > 1 && alike(f))
+        return 8;
     f->terms = 0;
     for (int t = 0; t <= f->k; t++) {
         f->test_at[f->terms] = (uint16_t)(h[t] * ROW + f->k - t);
         f->terms += h[t] != 0;
     }
-    return 1;
+    return 0;
 }
 
 /* Scattering is one step for each place and term; marks are a vector, or four, for each row and term, which is less up to q 32. */
@@ -993,7 +1102,8 @@ static uint32_t decode_word(Fast *f, const uint8_t *received, int *ready, uint8_
 uint32_t FAST(check)(const uint8_t *book, size_t book_len)
 {
     Fast f;
-    return accept(&f, book, book_len) ? 256u * (unsigned)f.duals : literal_check(book, book_len);
+    unsigned number = refusal(&f, book, book_len);
+    return number ? number : 256u * (unsigned)f.duals;
 }
 
 /* The word through the shift register: after k steps its top d bits are what is left. Eight bits at a time become bytes by a multiplication. */
@@ -1021,8 +1131,9 @@ uint32_t FAST(remainder)(const uint8_t *book, size_t book_len, const uint8_t *wo
     Fast f;
     uint64_t few[8][6];
     uint8_t padded[64] ALIGNED = {0}, rest[64];
-    if (!accept(&f, book, book_len))
-        return literal_check(book, book_len);
+    unsigned number = refusal(&f, book, book_len);
+    if (number)
+        return number;
     if (word_len != (size_t)f.n)
         return 9;
     if (remainder_len != (size_t)f.d)
@@ -1045,8 +1156,9 @@ uint32_t FAST(decode)(const uint8_t *book, size_t book_len, const uint8_t *recei
 {
     Fast f;
     int ready = 0;
-    if (!accept(&f, book, book_len))
-        return literal_check(book, book_len);
+    unsigned number = refusal(&f, book, book_len);
+    if (number)
+        return number;
     if (received_len != (size_t)f.n)
         return 9;
     if (answer_len != (size_t)f.n)
@@ -1072,8 +1184,9 @@ static Opened *opened(void *room)
 uint32_t FAST(open)(void *room, const uint8_t *book, size_t book_len)
 {
     Opened *o = opened(room);
+    unsigned number = refusal(&o->f, book, book_len);
     o->ready = 0;
-    return accept(&o->f, book, book_len) ? 256u * (unsigned)o->f.duals : literal_check(book, book_len);
+    return number ? number : 256u * (unsigned)o->f.duals;
 }
 
 uint32_t FAST(next)(void *room, const uint8_t *received, uint8_t *answer)
@@ -1125,7 +1238,7 @@ static void part_bytes(Fast *f, enum FastPart part, uint8_t *word, uint64_t *see
 static void any_part(Fast *f, enum FastPart part, const uint8_t *book, size_t book_len, uint8_t *word, uint64_t rows[3][PLANES], uint64_t *seen)
 {
     if (part == FAST_CHECK)
-        *seen += (unsigned)accept(f, book, book_len);
+        *seen += refusal(f, book, book_len);
     else if (f->p == 1)
         part_bits(f, part, word, 1, rows, seen);
     else if (f->p == 2)
@@ -1139,7 +1252,7 @@ uint64_t FAST(part)(void *room, enum FastPart part, const uint8_t *book, size_t 
     Fast *f = &opened(room)->f;
     uint8_t word[64] ALIGNED = {0};
     uint64_t rows[3][PLANES] = {{0}}, seen = 0;
-    accept(f, book, book_len);
+    refusal(f, book, book_len);
     memcpy(word, received, (size_t)f->n);
     for (enum FastPart before = FAST_CHECK; before < part; before++) /* what the part reads */
         any_part(f, before, book, book_len, word, rows, &seen);
