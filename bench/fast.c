@@ -109,6 +109,17 @@ INLINE unsigned wide_sum(Wide x)
     return (unsigned)(z * 0x0001000100010001u >> 48);
 }
 
+/* The sum modulo 65536. */
+INLINE uint16_t half_sum(Half x)
+{
+    Quad y = ((Quad)x & 0x0000ffff0000ffffu) + ((Quad)x >> 16 & 0x0000ffff0000ffffu);
+    uint64_t z = y[0] + y[1];
+#if VB == 32
+    z += y[2] + y[3];
+#endif
+    return (uint16_t)(z + (z >> 32));
+}
+
 /* Bytes below q, times x. */
 INLINE Vec times_x(Vec a, int q, int polynomial)
 {
@@ -341,8 +352,8 @@ INLINE void lay_rows(const Fast *f, uint8_t (*rows)[ROW], const int vecs)
 }
 
 /*
- * A number for each dual word that neither a turn nor a factor changes: at each place a mark tells which of four other places have its symbol, and the
- * squares of the marks are added up, below 65536. All rows are laid before any is read, since a load that spans two fresh stores waits.
+ * A number for each dual word that neither a turn nor a factor changes: at each place a mark tells which of four or five other places have its symbol,
+ * and the squares of the marks are added up, modulo 65536. All rows are laid before any is read, since a load that spans two fresh stores waits.
  */
 INLINE void signatures_in(const Fast *f, uint8_t (*rows)[ROW], uint16_t *out, const int vecs)
 {
@@ -351,17 +362,19 @@ INLINE void signatures_in(const Fast *f, uint8_t (*rows)[ROW], uint16_t *out, co
     Vec end = get(ends + vecs * VB - n);
     for (int l = 0; l < f->duals; l++) {
         const uint8_t *row = rows[l];
-        Wide sum = {0};
+        Half sum = {0};
         for (int v = 0; v < vecs; v++, row += VB) {
-            Vec x = get(row), m = (Vec)(x == get(row + 1)) & all(21);
-            m ^= (Vec)(x == get(row + (3 & n))) & all(7);
-            m ^= (Vec)(x == get(row + (7 & n))) & all(11);
-            m ^= (Vec)(x == get(row + (12 & n))) & all(26);
+            Vec x = get(row), m = (Vec)(x == get(row + 1)) & all(29);
+            m ^= (Vec)(x == get(row + (3 & n))) & all(71);
+            m ^= (Vec)(x == get(row + (7 & n))) & all(167);
+            m ^= (Vec)(x == get(row + (12 & n))) & all(202);
+            if (vecs == 1) /* short words have fewer marks */
+                m ^= (Vec)(x == get(row + (20 & n))) & all(86);
             m &= v == vecs - 1 ? end : all(255);
-            Wide low = (Wide)m & 255, high = (Wide)((Half)m >> 8);
+            Half low = (Half)m & 255, high = (Half)m >> 8;
             sum += low * low + high * high;
         }
-        out[l] = (uint16_t)wide_sum(sum);
+        out[l] = half_sum(sum);
     }
 }
 
@@ -445,7 +458,7 @@ static int alike(const Fast *f)
     default: lay_rows(f, rows, WORD); signatures_in(f, rows, signature, WORD); break;
     }
     for (int l = f->duals; l < 32; l++)
-        signature[l] = (uint16_t)(65535 - l); /* the sums are below */
+        signature[l] = (uint16_t)l; /* may be one of the sums: then some are compared for nothing */
     memcpy(signature + 32, signature, 64);
     for (int s = 1; s <= 16; s++)
         for (int l = 0; l < 32; l++)
