@@ -9,7 +9,8 @@
  *   - for p 6 the counts are scattered instead, dividing again being an offset of rows in the order of logarithms;
  *   - "g divides" is asked of k or n - k places of one product, not by division;
  *   - a remainder is left by a shift register whose cells stand in p numbers, a digit each;
- *   - dual words of p at most 3 are checked several to a byte.
+ *   - dual words of p at most 3 are checked several to a byte;
+ *   - dual words that are alike have one signature; those that share one are brought to a normal form, once each.
  */
 #include "fast.h"
 
