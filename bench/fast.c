@@ -396,7 +396,7 @@ static void inverse_rows(const Fast *f, uint16_t *at)
 }
 
 /* Whether a comes before b, in any one order. */
-INLINE int before(const uint8_t *a, const uint8_t *b, int n)
+INLINE int is_before(const uint8_t *a, const uint8_t *b, int n)
 {
     uint64_t x = load64(a), y = load64(b);
     for (int j = 8; x == y && j < n; j += 8) {
@@ -416,7 +416,7 @@ static void normal_form(const Fast *f, const uint16_t *inverses, const uint8_t *
     multiply(multiples, f->q, polynomials[f->p], 2 * f->vecs);
     for (int k = 1; k < f->n; k++) {
         const uint8_t *next = multiples + inverses[row[k]] + k;
-        if (before(next, first, f->n))
+        if (is_before(next, first, f->n))
             first = next;
     }
     memcpy(form, first, 64);

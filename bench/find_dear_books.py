@@ -5,7 +5,7 @@ Their generator is (x^n - 1) / (x - 1), whose dual words are all words with symb
 and 20 places apart: the library's, transcribed here. It is the same for every word with equal symbols in the same places; other words are
 looked for until one signature has enough.
 """
-import random, sys
+import random
 from find_books import Field, normal, write
 
 N, MARKS = 63, ((1, 29), (3, 71), (7, 167), (12, 202), (20, 86))
@@ -51,7 +51,7 @@ def words_of_weight(f, rng, weight):
 
 
 def nearly_level(f, rng, others):
-    """Symbol 1 nearly everywhere, so that the first word of a book differs from the turns of another late or in few places."""
+    """Symbol 1 nearly everywhere, so that a word and the turns of another differ in few places."""
     rest = [x for x in range(f.q) if x != 1 and (x or f.q == 2)]
     while True:
         w = [1] * N
@@ -60,7 +60,7 @@ def nearly_level(f, rng, others):
         yield w
 
 
-def in_order(f, rng):
+def every_symbol(f, rng):
     """Every nonzero symbol once: no two places are equal."""
     while True:
         w = list(range(2, f.q))
@@ -69,7 +69,7 @@ def in_order(f, rng):
 
 
 def renamed(f, rng, weight, each):
-    """One word whose symbols stand in `each` places, under other names of its symbols."""
+    """One word whose nonzero symbols stand in `each` places, again and again with other symbols for them."""
     places = [0] + rng.sample(range(1, N), weight - 1)
     while True:
         names = [1] + rng.sample(range(2, f.q), weight // each - 1)
@@ -79,7 +79,8 @@ def renamed(f, rng, weight, each):
         yield w
 
 
-def sums(f, words):
+def dual_words(words):
+    """Those of symbol sum 0."""
     for w in words:
         total = 0
         for x in w:
@@ -90,7 +91,7 @@ def sums(f, words):
 
 def make(name, p, maker, *given):
     f, rng = Field(p), random.Random(name)
-    words = one_signature(f, sums(f, maker(f, rng, *given)))
+    words = one_signature(f, dual_words(maker(f, rng, *given)))
     write(name, 6, p, [1] * N, 10, 4, words)
     print(name, "weight", N - words[0].count(0), "L", len(words), "signature", signature(words[0]))
 
@@ -101,5 +102,5 @@ if __name__ == "__main__":
     make("n63p6_equal", 6, renamed, 48, 3)
     make("n63p1_dear", 1, nearly_level, 3)
     make("n63p2_dear", 2, nearly_level, 4)
-    make("n63p6_dear", 6, in_order)
+    make("n63p6_dear", 6, every_symbol)
     write("n63p1_light", 6, 1, [1] * N, 10, 4, [[1] + [int(j == d) for j in range(1, N)] for d in range(1, 32)])
