@@ -3,7 +3,7 @@ every two of them. Run once, as find_books.py; the files are kept.
 
 Their generator is (x^n - 1) / (x - 1), whose dual words are all words with symbol sum 0. A signature is read off which symbols are equal, 1, 3, 7, 12
 and 20 places apart: the library's, transcribed here. It is the same for every word with equal symbols in the same places; other words are
-looked for until one signature has enough.
+looked for until one signature has enough. Only the light book is as it comes.
 """
 import random
 from find_books import Field, normal, write
@@ -103,4 +103,5 @@ if __name__ == "__main__":
     make("n63p1_dear", 1, nearly_level, 3)
     make("n63p2_dear", 2, nearly_level, 4)
     make("n63p6_dear", 6, every_symbol)
+    # words of weight 2, of which many share signatures without being looked for
     write("n63p1_light", 6, 1, [1] * N, 10, 4, [[1] + [int(j == d) for j in range(1, N)] for d in range(1, 32)])
