@@ -7,10 +7,8 @@ ghost use Rattle.book_records.specs.Records.{Readable};
 ghost use Rattle.spec_operations.specs.Check.{checkAnswer};
 ghost use Rattle.book.specs.Params.{said};
 ghost use Rattle.book.specs.Opened.{fewSymbols, tableRoom, MatrixSize, Opens};
-use sizes::FEW_TABLE;
 use sizes::GENERATOR_AT;
 use sizes::LIMITS_AT;
-use sizes::TABLE;
 
 mod generator;
 mod words;
@@ -45,20 +43,6 @@ pub fn few_symbols(book: &[u8]) -> bool
         return true;
     }
     sizes::few(book[2])
-}
-
-// Room for the table of the generator's multiples. Only its length matters: what is read of it is written first.
-pub fn table_room() -> [u8; TABLE]
-    ensures { λ r. ⌜ 8192 ≡ length r ⌝ }
-{
-    [0; TABLE]
-}
-
-// The same where symbols are few: to clear more costs time.
-pub fn few_table_room() -> [u8; FEW_TABLE]
-    ensures { λ r. ⌜ 1024 ≡ length r ⌝ }
-{
-    [0; FEW_TABLE]
 }
 
 // The size of an accepted book's matrix, known before the book is opened, so that room can be lent. Any other book asks for no more.
@@ -120,10 +104,10 @@ pub fn check(book: &[u8]) -> Checked
     ensures { λ r. ⌜ said r ≡ checkAnswer (now (book .entry)) ⌝ }
 {
     if few_symbols(book) {
-        let mut t = few_table_room();
+        let mut t = word_table::few_table_room();
         return check_in(book, &mut t);
     }
-    let mut t = table_room();
+    let mut t = word_table::table_room();
     check_in(book, &mut t)
 }
 

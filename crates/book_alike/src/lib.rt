@@ -10,7 +10,6 @@ ghost use Rattle.book_alike.specs.Signature.{Signed};
 ghost use Rattle.book_alike.specs.Compared.{differ, Comparable};
 use sizes::RECORD;
 use sizes::SPAN;
-use sizes::TABLE;
 use sizes::WIDTH;
 
 mod compare;
@@ -28,15 +27,8 @@ pub fn distinct_ok(p: u8, n: usize, book: &[u8], duals: usize) -> bool
     if signature::all_differ(duals, &s) {
         return true;
     }
-    let mut t = table_room();
+    let mut t = word_table::table_room();
     pairs_ok(p, n, book, duals, &s, &mut t)
-}
-
-// Room for the table of a dual word's multiples. Only its length matters: what is read of it is written first.
-fn table_room() -> [u8; TABLE]
-    ensures { λ r. ⌜ 8192 ≡ length r ⌝ }
-{
-    [0; TABLE]
 }
 
 // The same by comparing: no dual word is like one before it.

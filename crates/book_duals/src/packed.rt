@@ -10,7 +10,6 @@ ghost use Rattle.word_array.specs.Stored.{place, Sizes, Stored};
 ghost use Rattle.word_table.specs.Multiples.{entry, RowPut, Tabled};
 ghost use Rattle.book_duals.specs.Duals.{dualProduct, productOk, Tested};
 ghost use Rattle.book_duals.specs.Lanes.{lanes, lowDigits, otherDigits, doubleAll, Written, Packed};
-use sizes::FEW_TABLE;
 use sizes::RECORD;
 use sizes::SPAN;
 use sizes::STRIDE;
@@ -22,7 +21,7 @@ pub fn products_vanish(p: u8, n: usize, book: &[u8], duals: usize) -> bool
     ensures { λ r. ⌜ r ≡ all duals (productOk p n (now (book .entry))) ⌝ }
 {
     let most = sizes::wide(8 / p);
-    let mut t = table_room();
+    let mut t = word_table::few_table_room();
     let mut left = [0u8; SPAN];
     let mut l = 0;
     while l < duals {
@@ -32,13 +31,6 @@ pub fn products_vanish(p: u8, n: usize, book: &[u8], duals: usize) -> bool
         l += k;
     }
     word_array::is_zero(n, &left)
-}
-
-// Room for the table of a packed word's multiples. Only its length matters: what is read of it is written first.
-fn table_room() -> [u8; FEW_TABLE]
-    ensures { λ r. ⌜ 1024 ≡ length r ⌝ }
-{
-    [0; FEW_TABLE]
 }
 
 // The products of the k dual words from l on, packed.

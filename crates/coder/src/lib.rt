@@ -19,7 +19,7 @@ pub fn code(book: &[u8], message: &[u8], word: &mut [u8]) -> Done
     ensures { λ r. ⌜ Wrote (codeRefusal (now (book .entry)) (now (message .entry)) (length (now (word .entry))))
         (coded (now (book .entry)) (now (message .entry))) (now (word .entry)) (said r) (now (word .exit)) ⌝ }
 {
-    let mut t = book::table_room();
+    let mut t = word_table::table_room();
     let opened = book::open(book, &mut t);
     match opened {
         Opened::Refused(number) => Done::Refused(number),
@@ -51,7 +51,7 @@ pub fn read(book: &[u8], word: &[u8], message: &mut [u8]) -> Done
     ensures { λ r. ⌜ Wrote (readRefusal (now (book .entry)) (now (word .entry)) (length (now (message .entry))))
         (messageOf (now (book .entry)) (now (word .entry))) (now (message .entry)) (said r) (now (message .exit)) ⌝ }
 {
-    let mut t = book::table_room();
+    let mut t = word_table::table_room();
     let opened = book::open(book, &mut t);
     match opened {
         Opened::Refused(number) => Done::Refused(number),
@@ -89,7 +89,7 @@ pub fn remainder(book: &[u8], word: &[u8], out: &mut [u8]) -> Done
     ensures { λ r. ⌜ Wrote (remainderRefusal (now (book .entry)) (now (word .entry)) (length (now (out .entry))))
         (remainderOf (now (book .entry)) (now (word .entry))) (now (out .entry)) (said r) (now (out .exit)) ⌝ }
 {
-    let mut t = book::table_room();
+    let mut t = word_table::table_room();
     let opened = book::open(book, &mut t);
     match opened {
         Opened::Refused(number) => Done::Refused(number),

@@ -58,7 +58,7 @@ pub fn matrix(book: &[u8], received: &[u8], entries: &mut [u16]) -> Done
     ensures { λ r. ⌜ Wrote (matrixRefusal (now (book .entry)) (now (received .entry)) (length (now (entries .entry))))
         (matrixBytes (now (book .entry)) (now (received .entry))) (now (entries .entry)) (done.said r) (now (entries .exit)) ⌝ }
 {
-    let mut t = book::table_room();
+    let mut t = word_table::table_room();
     let opened = book::open(book, &mut t);
     match opened {
         Opened::Refused(number) => Done::Refused(number),
@@ -93,10 +93,10 @@ pub fn decode(book: &[u8], received: &[u8], answer: &mut [u8], entries: &mut [u1
         (now (answer .exit)) (now (entries .exit)) ⌝ }
 {
     if book::few_symbols(book) {
-        let mut t = book::few_table_room();
+        let mut t = word_table::few_table_room();
         return decode_by(book, received, answer, entries, &mut t);
     }
-    let mut t = book::table_room();
+    let mut t = word_table::table_room();
     decode_by(book, received, answer, entries, &mut t)
 }
 

@@ -16,7 +16,6 @@ ghost use Rattle.matrix_marks.specs.Marks.{Tallied, Countable, RowCopied
 use field_powers::POWERS_AT;
 use matrix_terms::TERMS_AT;
 use sizes::FEW_SYMBOLS;
-use sizes::FEW_TABLE;
 use sizes::SPAN;
 use sizes::STRIDE;
 use sizes::Word;
@@ -140,13 +139,6 @@ fn gather(p: u8, n: usize, terms: &[u16], counts: &[u16], m: &mut [u16])
     }
 }
 
-// Room for a table of the multiples of a word of few symbols.
-fn table_room() -> [u8; FEW_TABLE]
-    ensures { λ r. ⌜ 1024 ≡ length r ⌝ }
-{
-    [0; FEW_TABLE]
-}
-
 // Room for the marks of a dual word.
 fn mark_room() -> [u8; MARKS]
     ensures { λ r. ⌜ 1792 ≡ length r ⌝ }
@@ -181,7 +173,7 @@ pub fn fill(p: u8, n: usize, duals: usize, terms: &[u16], r: Word, m: &mut [u16]
     requires { ⌜ Filling 128 p n duals (now terms) r (now m) × (p ≤ 3) ⌝ }
     ensures { λ _. ⌜ ((b : ℕ → ℕ → ℕ) → TermsOf 128 p n duals b (now (terms .entry)) → now (m .exit) ≡ counted p n b duals (at n r)) ⌝ }
 {
-    let mut t = table_room();
+    let mut t = word_table::few_table_room();
     word_table::tabulate(p, n, word_table::widened(n, r), &mut t);
     let mut counts = counters();
     count_duals(p, n, duals, terms, &t, &mut counts);

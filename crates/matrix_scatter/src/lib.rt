@@ -15,20 +15,12 @@ use matrix_terms::TERMS_AT;
 use sizes::SPAN;
 use sizes::STRIDE;
 use sizes::SYMBOLS;
-use sizes::TABLE;
 use sizes::Word;
 
 // The counters that a room has where they are few.
 const FEW_COUNTERS: usize = 3072;
 // And where they are many.
 const COUNTERS: usize = 12288;
-
-// Room for the table of a word's multiples.
-fn table_room() -> [u8; TABLE]
-    ensures { λ r. ⌜ 8192 ≡ length r ⌝ }
-{
-    [0; TABLE]
-}
 
 // Counters, where they are few.
 fn small_room() -> [u16; FEW_COUNTERS]
@@ -175,7 +167,7 @@ fn count_duals(p: u8, n: usize, duals: usize, terms: &[u16], r: Word, counts: &m
     ensures { λ _. ⌜ Scattered 128 p n duals (now (terms .entry)) r (now (counts .exit)) ⌝ }
 {
     let starts = row_starts(p, n, terms);
-    let mut t = table_room();
+    let mut t = word_table::table_room();
     word_table::tabulate(p, n, word_table::widened(n, r), &mut t);
     let mut l = 0;
     while l < duals {

@@ -37,7 +37,7 @@ fn pass(
 
 // Answers standard input: SCOPE 6.
 pub fn run() {
-    let mut t = book::table_room();
+    let mut t = word_table::table_room();
     let mut terms = matrix_terms::room();
     let mut answer = stream::rooms::answer();
     let mut entries = stream::rooms::matrix();

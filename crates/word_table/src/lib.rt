@@ -9,9 +9,25 @@ ghost use Rattle.spec_field.specs.Symbols.{timesX};
 ghost use Rattle.word_array.specs.Stored.{place, Sizes, Stored};
 ghost use Rattle.word_table.specs.Multiples.{Twofold, entry, Begun, RowStored, RowPut, Tabled};
 ghost use Rattle.word_table.specs.Rows.{turnedSum, Summands};
+use sizes::FEW_TABLE;
 use sizes::SPAN;
 use sizes::STRIDE;
+use sizes::TABLE;
 use sizes::Word;
+
+// Room for a table of multiples. Only its length matters: what is read of it is written first.
+pub fn table_room() -> [u8; TABLE]
+    ensures { λ r. ⌜ 8192 ≡ length r ⌝ }
+{
+    [0; TABLE]
+}
+
+// The same where symbols are few: to clear more costs time.
+pub fn few_table_room() -> [u8; FEW_TABLE]
+    ensures { λ r. ⌜ 1024 ≡ length r ⌝ }
+{
+    [0; FEW_TABLE]
+}
 
 // A word of n symbols in SPAN places.
 pub fn widened(n: usize, w: Word) -> [u8; SPAN]

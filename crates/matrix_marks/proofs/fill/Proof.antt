@@ -20,8 +20,8 @@ table-made c = c .before .before .before .before .before
 abbrev begun : tie.After-tabulate → tie.Start
 begun c = c .before .before .before .before .before .before
 
-table-room-requires : tie.Need-table-room-requires
-table-room-requires c κs = search needs
+few-table-room-requires : tie.Need-few-table-room-requires
+few-table-room-requires c κs = search needs
 
 widened-requires : tie.Need-widened-requires
 widened-requires c κs = search needs
@@ -35,7 +35,7 @@ tabulate-requires c κs =
     let s = pre .0 .terms-of .numbers .sizes in (
       s,
       word-stored 64 s (omega (arith, s .n-high)) _ (c .before .widened .ensures) (pre .0 .word),
-      omega (arith, few-le (pre .1), c .before .before .table-room .ensures),
+      omega (arith, few-le (pre .1), c .before .before .few-table-room .ensures),
     )
 
 counters-requires : tie.Need-counters-requires
@@ -108,7 +108,7 @@ pub fill-spec : {M : Type 1} → statement M
 fill-spec =
     tie.close
     (tie.spec
-    table-room-requires
+    few-table-room-requires
     widened-requires
     slice-aggregate-tabulate
     tabulate-requires

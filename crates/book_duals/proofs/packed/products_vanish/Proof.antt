@@ -29,11 +29,11 @@ div-wide c = search needs
 wide-requires : tie.Need-wide-requires Inv-loop μ-loop
 wide-requires c κs = search needs
 
-table-room-requires : tie.Need-table-room-requires Inv-loop μ-loop
-table-room-requires c κs = search needs
+few-table-room-requires : tie.Need-few-table-room-requires Inv-loop μ-loop
+few-table-room-requires c κs = search needs
 
 loop-holds : tie.Need-loop-holds Inv-loop μ-loop
-loop-holds c = (search needs, sym (c .table-room .ensures), joined-none _ _)
+loop-holds c = (search needs, sym (c .few-table-room .ensures), joined-none _ _)
 
 sub-smaller : tie.Need-sub-smaller Inv-loop μ-loop
 sub-smaller c = search needs
@@ -98,7 +98,7 @@ products-vanish-spec =
     μ-loop
     div-wide
     wide-requires
-    table-room-requires
+    few-table-room-requires
     loop-holds
     sub-smaller
     smaller-requires
