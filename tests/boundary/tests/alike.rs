@@ -284,3 +284,45 @@ fn one_pair_at_every_two_positions() {
     }
     tally.finish(1);
 }
+
+/// Codebooks in which the words that are not alike are the hardest to tell:
+/// many share the number that the library compares first.
+const DEAR: [&str; 7] = [
+    "n63p1_light",
+    "n63p1_equal",
+    "n63p1_dear",
+    "n63p2_equal",
+    "n63p2_dear",
+    "n63p6_equal",
+    "n63p6_dear",
+];
+
+/// A codebook that the bench has stored.
+fn stored(name: &str) -> Book {
+    let folder = concat!(env!("CARGO_MANIFEST_DIR"), "/../../bench/books");
+    let bytes = std::fs::read(format!("{folder}/{name}.book"));
+    Book::new(bytes.expect("a stored codebook"))
+}
+
+#[test]
+fn codebooks_that_are_dear_to_compare() {
+    let mut tally = Tally::new("check, dear codebooks").due("result", ["accepted", "refused"]);
+    for name in DEAR {
+        let book = stored(name);
+        let (words, l) = (book.parts.dual_words(), book.parts.l());
+        assert_eq!(boundary::check(&book.bytes), 256 * l as u32, "{name}");
+        tally.tried();
+        tally.count("result", "accepted");
+        let mut random = Random::new(draw::seed(4, 6, book.parts.field().p(), 0));
+        for (one, other) in positions(6, l).chain((1..l).map(|one| (one, 0))) {
+            let copy = copy(book.parts.field(), &words[one], &mut random);
+            let mut damaged = book.bytes.clone();
+            damaged[71 + 64 * other..134 + 64 * other].copy_from_slice(&copy);
+            let number = refusal(boundary::check(&damaged));
+            assert_eq!(number, 8, "{name} {one} {other}");
+            tally.tried();
+            tally.count("result", "refused");
+        }
+    }
+    tally.finish(7);
+}
