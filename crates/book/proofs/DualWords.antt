@@ -89,7 +89,7 @@ module _ {bytes : List ℕ} {p n : ℕ} (h : Read bytes p n) {count : ℕ} (e : 
   pub comparable : dualsOk (fieldOf bytes) (bookOf width bytes) ≡ true → Comparable bytes p n count
   unfolding dualsOk dualOk bookOf dualWord
   comparable d =
-      record { tested = tested; lying = lying; most = omega (arith, h .sized .whole .count-high); first = λ l b. first l (omega arith) }
+      record { tested = tested; most = omega (arith, h .sized .whole .count-high); first = λ l b. first l (omega arith) }
     where
       first : (l : ℕ) → l < dualCount width (length bytes) → dualWord n bytes l 0 ≡ 1
       first l b =

@@ -84,21 +84,8 @@ told-once {x} e t = eqb→eq x 1 (true-test _ (sym (not-not (eqb x 1)) ∙ ap no
 -- ---- dual words
 
 -- what is known of all holds of the first ones
-pub comparable-part : {bytes : List ℕ} {p n m duals : ℕ} → 1 ≤ m → m ≤ duals → Comparable bytes p n duals → Comparable bytes p n m
-comparable-part low l h =
-    record {
-      tested = tested-part l (h .tested);
-      lying =
-          record {
-            n-low = h .lying .n-low;
-            n-high = h .lying .n-high;
-            duals-low = low;
-            room = tested-part l (h .tested) .room;
-            zero = λ k j b. h .lying .zero k j (omega arith);
-          };
-      most = omega (arith, h .most);
-      first = λ k b. h .first k (omega arith);
-    }
+pub comparable-part : {bytes : List ℕ} {p n m duals : ℕ} → m ≤ duals → Comparable bytes p n duals → Comparable bytes p n m
+comparable-part l h = record { tested = tested-part l (h .tested); most = omega (arith, h .most); first = λ k b. h .first k (omega arith) }
 
 pub signed-part : {bytes s : List ℕ} {n m duals : ℕ} → m ≤ duals → Signed bytes n duals s → Signed bytes n m s
 signed-part l g = record { long = g .long; signed = λ k b. g .signed k (omega arith) }

@@ -11,16 +11,15 @@ use Rattle.spec_word.specs.Word.{nonzero}
 use Rattle.spec_word.specs.Alike.{alike}
 use Rattle.word_array.specs.Stored.{place}
 use Rattle.word_table.specs.Multiples.{wordOf, Multiples}
-use Rattle.book_duals.specs.Duals.{dualWord, Lying, Tested}
+use Rattle.book_duals.specs.Duals.{dualWord, Tested}
 
 -- dual word l is like none before it
 unfoldable pub differ : ℕ → ℕ → List ℕ → ℕ → Bool
 differ p n bytes l = all l (λ m. not (alike (gf p) n (dualWord n bytes m) (dualWord n bytes l)))
 
--- the dual words have symbols, are zero from place n on, and have symbol 1 at place 0
+-- the dual words have symbols, and symbol 1 at place 0
 pub record Comparable (bytes : List ℕ) (p n duals : ℕ) : Type 0 where
   pub tested : Tested bytes p n duals
-  pub lying : Lying bytes n duals
   pub most : duals ≤ 32
   pub first : (l : ℕ) → l < duals → dualWord n bytes l 0 ≡ 1
 

@@ -11,7 +11,6 @@ ghost use Rattle.spec_range.specs.Table.{padded};
 ghost use Rattle.word_array.specs.Stored.{place};
 ghost use Rattle.word_table.specs.Window.{Window};
 ghost use Rattle.spec_book.specs.Layout.{width, dualAt};
-ghost use Rattle.book_duals.specs.Duals.{Lying};
 ghost use Rattle.book_alike.specs.Signature.{markOf, markAt, signatureOf, timesOf, Twice, Laid, Signed};
 use sizes::DUALS;
 use sizes::SPAN;
@@ -25,7 +24,7 @@ const ROWS: usize = 1024;
 
 // The signatures of the dual words.
 pub fn signatures(n: usize, book: &[u8], duals: usize) -> [u16; DUALS]
-    requires { ⌜ Lying (now book) n duals × (duals ≤ 32) ⌝ }
+    requires { ⌜ (1 ≤ n) × (n ≤ 63) × (dualAt width duals ≤ length (now book)) × (duals ≤ 32) ⌝ }
     ensures { λ r. ⌜ Signed (now (book .entry)) n duals r ⌝ }
 {
     let inside = inside(n);

@@ -24,7 +24,7 @@ loop-holds c = (refl, passing-none _ _)
 seen-before-requires : tie.Need-seen-before-requires Inv-loop μ-loop
 seen-before-requires c κs =
     let s = c .before .before .before .before .before .before .pre in
-    (comparable-part (omega arith) (omega arith) (s .0), signed-part (omega arith) (s .1), omega (arith, s .2, c .before .before .loop .inv .0))
+    (comparable-part (omega arith) (s .0), signed-part (omega arith) (s .1), omega (arith, s .2, c .before .before .loop .inv .0))
 
 same-length : tie.Need-same-length Inv-loop μ-loop
 same-length c = c .before .before .before .seen-before .ensures .1 ∙ c .before .before .before .before .before .before .loop .inv .0

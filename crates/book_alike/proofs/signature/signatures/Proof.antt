@@ -39,7 +39,7 @@ lay-requires c κs =
     let k = c .before .smaller .ensures in
     let now = c .before .before .before .loop .inv in
     let s = c .before .before .before .before .before .before .before .pre in
-    (s .0 .n-low, s .0 .n-high, omega (arith, k, s .0 .room), omega (arith, k, now .1))
+    (s .0, s .1, omega (arith, k, s .2), omega (arith, k, now .1))
 
 slice-aggregate-sign : tie.Need-slice-aggregate-sign Inv-loop μ-loop
 slice-aggregate-sign c = search needs
@@ -56,7 +56,7 @@ sign-requires c κs =
     let k = lay .before .before .smaller .ensures in
     let now = lay .before .before .before .before .loop .inv in
     let s = lay .before .before .before .before .before .before .before .before .pre in
-    (s .0 .n-high, omega (arith, k, lay .lay .ensures .long, now .1), lay .before .before .before .before .before .before .inside .ensures, omega (arith, k, now .2 .long, s .1))
+    (s .1, omega (arith, k, lay .lay .ensures .long, now .1), lay .before .before .before .before .before .before .inside .ensures, omega (arith, k, now .2 .long, s .3))
 
 add-l : tie.Need-add-l Inv-loop μ-loop
 add-l c = search needs
