@@ -141,15 +141,15 @@ remainders =
 -- SCOPE 8.21: words that are alike, and words that are not
 abbrev pub likenesses : List (Type 0)
 likenesses =
-    -- over GF(2) 1101001 is 1110100 turned by 6; 1001011 is its mirror image, and no turn of it
+    -- p 1: 1101001 is 1110100 turned by 6; 1001011, the mirror image of 1110100, is no turn of it
     (compares 1 (1 ∷ 1 ∷ 0 ∷ 1 ∷ 0 ∷ 0 ∷ 1 ∷ []) (1 ∷ 1 ∷ 1 ∷ 0 ∷ 1 ∷ 0 ∷ 0 ∷ []) ≡ true)
     ∷ (compares 1 (1 ∷ 0 ∷ 0 ∷ 1 ∷ 0 ∷ 1 ∷ 1 ∷ []) (1 ∷ 1 ∷ 1 ∷ 0 ∷ 1 ∷ 0 ∷ 0 ∷ []) ≡ false)
-    -- over GF(4) 103 is 120 turned by 2, times 3; 102 is no multiple of a turn of it
+    -- p 2: 103 is 120 turned by 2, times 3; 102 is no multiple of a turn of 120
     ∷ (compares 2 (1 ∷ 0 ∷ 3 ∷ []) (1 ∷ 2 ∷ 0 ∷ []) ≡ true)
     ∷ (compares 2 (1 ∷ 0 ∷ 2 ∷ []) (1 ∷ 2 ∷ 0 ∷ []) ≡ false)
-    -- A with 1101001 for a second dual word is refused by 8
+    -- A: with 1101001 for a second dual word it is refused by 8
     ∷ (checks (bookA 1 ++ (4 ∷ bodyOf (1 ∷ 1 ∷ 0 ∷ 1 ∷ 0 ∷ 0 ∷ 1 ∷ []))) ≡ numbers (8 ∷ []))
-    -- s 3, p 1, g 1111111 with the dual words 11 and 101, which have one weight and are not alike, is accepted
+    -- p 1: s 3, g 1111111 with the dual words 11 and 101, which have one weight and are not alike, is accepted
     ∷ (checks (bookBytes 3 1 (1 ∷ 1 ∷ 1 ∷ 1 ∷ 1 ∷ 1 ∷ 1 ∷ []) 3 1 (1 ∷ 1 ∷ []) ++ (4 ∷ bodyOf (1 ∷ 0 ∷ 1 ∷ []))) ≡ numbers (0 ∷ []))
     ∷ []
 
