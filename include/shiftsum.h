@@ -8,7 +8,7 @@
  *     0               1, 2    1; s from 2 to 6, and p, which divides s
  *     3               1, 63   2; g, coefficients from x^0, leading one 1; it divides x^n - 1
  *     67              1, 2    3; I, most rounds, 1 to 63, and D, most places of a count in the update rule, 1 to n
- *     70 + 64 l       1, 63   4; dual word l: 1 at place 0, its product with g is zero, all of one weight, no two equal; l below L, L from 1 to 32
+ *     70 + 64 l       1, 63   4; dual word l: 1 at place 0, its product with g is zero, all of one weight, no two alike; l below L, L from 1 to 32
  *
  * Places from n on are zero. A codebook that breaks a rule is refused by number.
  *
