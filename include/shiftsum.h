@@ -1,8 +1,9 @@
 /*
  * shiftsum: a proved coder for cyclic codes with an iterated shift-sum decoder.
  *
- * A symbol is a byte below q = 2^p. A word is n = 2^s - 1 symbols, place j the coefficient of x^j; a message is k = n - degree(g) symbols, and a
- * remainder on division by g the other n - k. s, p, the generator g and the dual words come from a codebook, which every call is given:
+ * A symbol is a byte below q = 2^p. A word is n = 2^s - 1 symbols, place j the coefficient of x^j; a message is k = n - degree(g) symbols, or fewer where
+ * the high ones are zero and left out, and a remainder on division by g is n - k. s, p, the generator g and the dual words come from a codebook, which
+ * every call is given:
  *
  *     offset          bytes   content
  *     0               1, 2    1; s from 2 to 6, and p, which divides s
@@ -49,7 +50,7 @@ extern "C" {
 #define SHIFTSUM_BOOK_MIN 134
 #define SHIFTSUM_BOOK_MAX 2118
 
-/* Symbols of a word: n. A message has 1 to n - 1, and so has a remainder. */
+/* Symbols of a word: n. k is 1 to n - 1, and so is n - k. */
 #define SHIFTSUM_WORD_MIN 3
 #define SHIFTSUM_WORD_MAX 63
 
@@ -69,7 +70,8 @@ extern "C" {
  *      7  codebook: a dual word's place 0, product with g, or weight                 check, code, read, remainder, decode
  *      8  codebook: two dual words are alike: one is a nonzero symbol times a turn   check, code, read, remainder, decode
  *         of the other; so also two equal ones
- *      9  input: not k symbols (code), not n symbols (read, remainder, decode)              code, read, remainder, decode
+ *      9  input: none or more than k symbols (code), not n symbols (read, remainder,        code, read, remainder, decode
+ *         decode)
  *     10  output: its length is not exact, n (code, decode), k (read), n - k (remainder)    code, read, remainder, decode
  *     11  input: a symbol of q or more                                                      code, read, remainder, decode
  *     12  input: not a code word                                                                  read
@@ -109,16 +111,16 @@ uint32_t shiftsum_check(const uint8_t *book, size_t book_len);
 
 /*
  * Codes a message: writes the product of message and g.
- *   message  k symbols, from x^0
- *   word     n bytes, written
- * Returns 0, or a refusal from 1 to 11. shiftsum_read gives the message back from the word.
+ *   message  1 to k symbols, from x^0; those that a short message lacks, its high ones, count as zero
+ *   word     n bytes, written, however short the message is
+ * Returns 0, or a refusal from 1 to 11. shiftsum_read gives the message back from the word, a short one with its zeros: k symbols always.
  */
 uint32_t shiftsum_code(const uint8_t *book, size_t book_len, const uint8_t *message, size_t message_len, uint8_t *word, size_t word_len);
 
 /*
  * Reads a code word: writes its quotient by g.
  *   word     n symbols
- *   message  k bytes, written
+ *   message  k bytes, written; nothing in a word tells how short a message was coded
  * Returns 0, or a refusal from 1 to 12. shiftsum_code gives the word back from the message.
  */
 uint32_t shiftsum_read(const uint8_t *book, size_t book_len, const uint8_t *word, size_t word_len, uint8_t *message, size_t message_len);

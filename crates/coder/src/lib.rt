@@ -11,10 +11,11 @@ use book::Opened;
 use book::Params;
 use refusals::Done;
 
+pub mod short;
 pub mod sorting;
 pub mod trips;
 
-// Code a message of k symbols into a word of n.
+// Code a message of 1 to k symbols into a word of n.
 pub fn code(book: &[u8], message: &[u8], word: &mut [u8]) -> Done
     ensures { λ r. ⌜ Wrote (codeRefusal (now (book .entry)) (now (message .entry)) (length (now (word .entry))))
         (coded (now (book .entry)) (now (message .entry))) (now (word .entry)) (said r) (now (word .exit)) ⌝ }
@@ -27,7 +28,7 @@ pub fn code(book: &[u8], message: &[u8], word: &mut [u8]) -> Done
     }
 }
 
-// The same once the book is open: the product with the generator is read off the generator's table.
+// The same once the book is open: the product with the generator is read off the generator's table. The symbols that a short message lacks would add nothing.
 fn code_message(c: Params, t: &[u8], message: &[u8], word: &mut [u8]) -> Done
     requires { ⌜ SomeBook c (now t) ⌝ }
     ensures { λ r. ⌜ ((bytes : List ℕ) → OpenBook bytes c (now (t .entry))
@@ -37,11 +38,13 @@ fn code_message(c: Params, t: &[u8], message: &[u8], word: &mut [u8]) -> Done
     let n = c.n;
     let k = n - c.degree;
     let q = field::order(c.p);
-    let number = refusals::refusal(q, message.len() == k, word.len() == n, message);
+    let size = message.len();
+    let fits = refusals::message_fits(k, size);
+    let number = refusals::refusal(q, fits, word.len() == n, message);
     if number != 0 {
         return Done::Refused(number);
     }
-    let product = word_table::product(n, k, message, 0, t);
+    let product = word_table::product(n, size, message, 0, t);
     word_array::store(&product, word);
     Done::Made
 }

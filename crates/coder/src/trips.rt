@@ -3,6 +3,7 @@ ghost use mathlib.Core.Path.{_≡_};
 ghost use lib.ListN.{length};
 ghost use Rattle.spec_book.specs.Book.{messageLength};
 ghost use Rattle.spec_book.specs.Layout.{width, bookOf};
+ghost use Rattle.spec_coding.specs.Coder.{writtenOut};
 ghost use Rattle.spec_operations.specs.Wrote.{Wrote};
 ghost use Rattle.spec_operations.specs.Coding.{codeRefusal, coded, readRefusal, messageOf};
 ghost use Rattle.spec_operations.specs.Trips.{GivenBack};
@@ -15,7 +16,8 @@ pub struct Both {
     pub second: Done,
 }
 
-// Both calls answer and write what the definitions say, whatever is given; and a message that is accepted is read back from the word that it was coded into.
+// Both calls answer and write what the definitions say, whatever is given; and a message that is accepted is read back, written out, from the word that
+// it was coded into.
 pub fn code_then_read(book: &[u8], message: &[u8], word: &mut [u8], back: &mut [u8]) -> Both
     ensures { λ r. ⌜ Wrote (codeRefusal (now (book .entry)) (now (message .entry)) (length (now (word .entry))))
         (coded (now (book .entry)) (now (message .entry))) (now (word .entry)) (said (r .first)) (now (word .exit)) ⌝ }
@@ -23,7 +25,7 @@ pub fn code_then_read(book: &[u8], message: &[u8], word: &mut [u8], back: &mut [
         (messageOf (now (book .entry)) (now (word .exit))) (now (back .entry)) (said (r .second)) (now (back .exit)) ⌝ }
     ensures { λ r. ⌜ (codeRefusal (now (book .entry)) (now (message .entry)) (length (now (word .entry))) ≡ 0
         → length (now (back .entry)) ≡ messageLength (bookOf width (now (book .entry)))
-        → GivenBack (said (r .first)) (said (r .second)) (now (message .entry)) (now (back .exit))) ⌝ }
+        → GivenBack (said (r .first)) (said (r .second)) (writtenOut (bookOf width (now (book .entry))) (now (message .entry))) (now (back .exit))) ⌝ }
 {
     let first = crate::code(book, message, word);
     let second = crate::read(book, word, back);

@@ -1,11 +1,18 @@
 // The refusals 9 to 11, which every operation on a book has, and the answer of an operation that writes one buffer.
 ghost use mathlib.Core.Path.{_≡_};
-ghost use Rattle.spec_book.specs.Conditions.{inputOk, inputRefusal};
+ghost use Rattle.spec_book.specs.Conditions.{messageFits, inputOk, inputRefusal};
 
 // The buffer is written, or the call is refused with the number of SCOPE 7.
 pub enum Done {
     Made,
     Refused(u8),
+}
+
+// Whether a message has 1 to k symbols.
+pub fn message_fits(k: usize, size: usize) -> bool
+    ensures { λ r. ⌜ r ≡ messageFits k size ⌝ }
+{
+    1 <= size && size <= k
 }
 
 // Whether every symbol of the input is below q: all are read, with no branch, so that the loop is vector steps.

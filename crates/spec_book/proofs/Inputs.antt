@@ -1,17 +1,34 @@
 -- What a refusal number of 0 tells of an input, and which inputs have it.
 -- Assumes nothing.
 use mathlib.Core.Path.{_≡_, _∙_, subst}
-use mathlib.Core.Bool.{Bool}
+use mathlib.Core.Bool.{Bool, _&&_}
 use mathlib.Core.List.{List}
-use Prim.Native.Nat.{ℕ, _<_}
-use lib.Dec.{T, eqb, ltb, lt→ltb, ltb→lt}
+use Prim.Native.Nat.{ℕ, _≤_, _<_}
+use lib.Dec.{T, eqb, leb, ltb, leb→le, le→leb, lt→ltb, ltb→lt}
 use lib.ListN.{length, getD}
-use Rattle.spec_range.proofs.Tests.{eq→eqb, cond-true}
+use Rattle.spec_range.proofs.Tests.{eq→eqb, cond-true, and-left, and-right, and-both}
 use Rattle.spec_range.proofs.Table.{all-at, all-of}
 use Rattle.spec_field.specs.Field.{FieldOps}
 use Rattle.spec_word.specs.Word.{IsWord}
-use Rattle.spec_book.specs.Conditions.{inputOk, inputRefusal}
+use Rattle.spec_book.specs.Conditions.{messageFits, inputOk, inputRefusal}
 use Rattle.spec_book.proofs.Sound.{passed}
+
+-- ---- the size of a message
+
+module _ (k size : ℕ) where
+  pub fits-low : T (messageFits k size) → 1 ≤ size
+  unfolding messageFits
+  fits-low t = leb→le 1 size (and-left (leb 1 size) (leb size k) t)
+
+  pub fits-high : T (messageFits k size) → size ≤ k
+  unfolding messageFits
+  fits-high t = leb→le size k (and-right (leb 1 size) (leb size k) t)
+
+  pub size-fits : 1 ≤ size → size ≤ k → T (messageFits k size)
+  unfolding messageFits
+  size-fits low high = and-both (leb 1 size) (leb size k) (le→leb 1 size low) (le→leb size k high)
+
+-- ---- an input with its output
 
 pub record AcceptedInput (q : ℕ) (fits exact : Bool) (input : List ℕ) : Type 0 where
   pub size : T fits

@@ -98,6 +98,10 @@ refusal width bytes =
 
 -- ---- tests of an operation's input and outputs
 
+-- SCOPE 7.9: 9, in code: a message has 1 to k symbols. (Other inputs have n.)
+unfoldable pub messageFits : ℕ → ℕ → Bool
+messageFits k size = leb 1 size && leb size k
+
 -- SCOPE 7.11: every input symbol is below q
 unfoldable pub inputOk : ℕ → List ℕ → Bool
 inputOk q input = all (length input) (λ j. ltb (getD input j 0) q)

@@ -1,4 +1,4 @@
--- SCOPE 8: The worked cases 1 to 14, remainders and words that are alike: what the definitions give, and what SCOPE.md has.
+-- SCOPE 8: The worked cases 1 to 14, remainders, words that are alike and short messages: what the definitions give, and what SCOPE.md has.
 -- Assumes nothing.
 use mathlib.Core.Path.{_≡_}
 use mathlib.Core.Bool.{Bool, true, false}
@@ -12,10 +12,11 @@ use Rattle.spec_word.specs.Alike.{alike}
 use Rattle.spec_book.specs.Book.{remainderBy}
 use Rattle.spec_book.specs.Layout.{width, fieldOf, bookOf, wordLength}
 use Rattle.spec_book.specs.Conditions.{refusal}
-use Rattle.spec_coding.specs.Coder.{encode}
+use Rattle.spec_coding.specs.Coder.{encode, message}
 use Rattle.spec_decoding.specs.Matrix.{matrix, cell}
 use Rattle.spec_decoding.specs.Decode.{Kind, holders, decode, mended, stalled, spent}
 use Rattle.spec_decoding.specs.Symmetry.{move}
+use Rattle.spec_operations.specs.Coding.{codeRefusal}
 use Rattle.spec_cases.specs.Books.{bodyOf, bookBytes, bookA, bookB, bookC}
 
 -- SCOPE 8.18: what is shown of an operation: numbers, or a kind, rounds, changed and the answer word
@@ -40,6 +41,21 @@ codes book f =
     let B = bookOf width bytes in
     let word = encode F B f in
     numbers word
+
+-- SCOPE 4.6: the symbols that read writes
+unfoldable pub reads : List ℕ → List ℕ → Shown
+reads book w =
+    let bytes = book in
+    let F = fieldOf bytes in
+    let B = bookOf width bytes in
+    let f = message F B w in
+    numbers f
+
+-- SCOPE 7.18: the number of code where its output has n bytes, 0 where the message is coded
+unfoldable pub declines : List ℕ → List ℕ → ℕ
+declines book f =
+    let bytes = book in
+    codeRefusal bytes f (wordLength bytes)
 
 -- SCOPE 4.13: the entries that matrix writes
 unfoldable pub fills : List ℕ → List ℕ → Shown
@@ -151,6 +167,26 @@ likenesses =
     ∷ (checks (bookA 1 ++ (4 ∷ bodyOf (1 ∷ 1 ∷ 0 ∷ 1 ∷ 0 ∷ 0 ∷ 1 ∷ []))) ≡ numbers (8 ∷ []))
     -- p 1: s 3, g 1111111 with the dual words 11 and 101, which have one weight and are not alike, is accepted
     ∷ (checks (bookBytes 3 1 (1 ∷ 1 ∷ 1 ∷ 1 ∷ 1 ∷ 1 ∷ 1 ∷ []) 3 1 (1 ∷ 1 ∷ []) ++ (4 ∷ bodyOf (1 ∷ 0 ∷ 1 ∷ []))) ≡ numbers (0 ∷ []))
+    ∷ []
+
+-- SCOPE 8.22: short messages
+abbrev pub shorts : List (Type 0)
+shorts =
+    -- A: 1 is coded as 1000 is (case 2), 11 as 1100 (case 3), 01 as 0110100, and 0 as 0000000
+    (codes (bookA 1) (1 ∷ []) ≡ numbers (1 ∷ 1 ∷ 0 ∷ 1 ∷ 0 ∷ 0 ∷ 0 ∷ []))
+    ∷ (codes (bookA 1) (1 ∷ 1 ∷ []) ≡ numbers (1 ∷ 0 ∷ 1 ∷ 1 ∷ 1 ∷ 0 ∷ 0 ∷ []))
+    ∷ (codes (bookA 1) (0 ∷ 1 ∷ []) ≡ numbers (0 ∷ 1 ∷ 1 ∷ 0 ∷ 1 ∷ 0 ∷ 0 ∷ []))
+    ∷ (codes (bookA 1) (0 ∷ []) ≡ numbers (0 ∷ 0 ∷ 0 ∷ 0 ∷ 0 ∷ 0 ∷ 0 ∷ []))
+    -- A: 0110100 is read as 0100, k symbols
+    ∷ (reads (bookA 1) (0 ∷ 1 ∷ 1 ∷ 0 ∷ 1 ∷ 0 ∷ 0 ∷ []) ≡ numbers (0 ∷ 1 ∷ 0 ∷ 0 ∷ []))
+    -- C: 3 is coded as 130, and read as 30
+    ∷ (codes (bookC 2) (3 ∷ []) ≡ numbers (1 ∷ 3 ∷ 0 ∷ []))
+    ∷ (reads (bookC 2) (1 ∷ 3 ∷ 0 ∷ []) ≡ numbers (3 ∷ 0 ∷ []))
+    -- A: code has the number 9 for no symbols, 0 for 1 and for 4, which is k, and 9 for 5
+    ∷ (numbers (declines (bookA 1) [] ∷ declines (bookA 1) (1 ∷ []) ∷ []) ≡ numbers (9 ∷ 0 ∷ []))
+    ∷ (numbers (declines (bookA 1) (1 ∷ 0 ∷ 0 ∷ 0 ∷ []) ∷ declines (bookA 1) (1 ∷ 0 ∷ 0 ∷ 0 ∷ 0 ∷ []) ∷ []) ≡ numbers (0 ∷ 9 ∷ []))
+    -- B: k is 1, so that no message is short: 9 for no symbols, 0 for 1, 9 for 2
+    ∷ (numbers (declines bookB [] ∷ declines bookB (2 ∷ []) ∷ declines bookB (2 ∷ 0 ∷ []) ∷ []) ≡ numbers (9 ∷ 0 ∷ 9 ∷ []))
     ∷ []
 
 -- every case of a list holds

@@ -3,7 +3,8 @@
 use mathlib.Core.Path.{_≡_, sym, ap, ap₂, _∙_, subst}
 use mathlib.Core.Bool.{Bool, true, false}
 use mathlib.Core.List.{List}
-use Prim.Native.Nat.{ℕ, zero, suc, pred, _%_, _<_}
+use Prim.Native.Nat.{ℕ, zero, suc, pred, _%_, _≤_, _<_}
+use native.Mathlib.Nat.{le-refl}
 use native.Mathlib.Decide.{decLt}
 use native.Mathlib.Omega.{arith}
 use lib.Dec.{T, eqb, eqb→eq}
@@ -23,11 +24,11 @@ use Rattle.spec_word.proofs.Division.{remainder-below}
 use Rattle.spec_word.proofs.Quotient.{quotientAt, quotient-at}
 use Rattle.spec_book.specs.Book.{Book, messageLength, isCodeWord}
 use Rattle.spec_book.specs.Layout.{width, fieldOf, bookOf}
-use Rattle.spec_book.specs.Conditions.{unless, refusal, codeWordRefusal}
+use Rattle.spec_book.specs.Conditions.{unless, refusal, messageFits, codeWordRefusal}
 use Rattle.spec_book.proofs.Sound.{passed}
 use Rattle.spec_book.proofs.Known.{book-laws, book-accepted}
-use Rattle.spec_book.proofs.Inputs.{AcceptedInput, accepted-input, input-accepted, word-input}
-use Rattle.spec_coding.specs.Coder.{encode, message}
+use Rattle.spec_book.proofs.Inputs.{fits-high, size-fits, AcceptedInput, accepted-input, input-accepted}
+use Rattle.spec_coding.specs.Coder.{writtenOut, encode, message}
 use Rattle.spec_coding.proofs.Coder.{encode-code, message-encode, encode-message}
 use Rattle.spec_operations.specs.Wrote.{Wrote}
 use Rattle.spec_operations.specs.Coding.{codeInputRefusal, codeRefusal, coded, readInputRefusal, readWordRefusal, readRefusal, messageOf}
@@ -82,10 +83,14 @@ input-symbols F laws {input = input} h j = go (decLt j (length input))
     go (no l) = subst (λ (x : ℕ). x < F .q) (sym (List·getD-eq-default input 0 (omega arith))) (zero-below F laws)
 
 -- a table of symbols as an input
-table-input : (F : FieldOps) (n : ℕ) (f : ℕ → ℕ) {exact : Bool} → T exact → ((j : ℕ) → f j < F .q)
-    → AcceptedInput (F .q) (eqb (length (table n f)) n) exact (table n f)
-table-input F n f t h =
-    word-input {F = F} (record { size = table-length n f; symbol = λ j l. subst (λ (x : ℕ). x < F .q) (sym (table-at n f l)) (h j) }) t
+table-input : (F : FieldOps) (n : ℕ) (f : ℕ → ℕ) {fits exact : Bool} → T fits → T exact → ((j : ℕ) → f j < F .q)
+    → AcceptedInput (F .q) fits exact (table n f)
+table-input F n f s t h =
+    record {
+      size = s;
+      sizes = t;
+      symbol = λ j l. subst (λ (x : ℕ). x < F .q) (sym (table-at n f (subst (λ (k : ℕ). j < k) (table-length n f) l))) (h j);
+    }
 
 -- the quotient's coefficients are symbols
 quotient-below : (F : FieldOps) → FieldLaws F → (d : ℕ) (g : ℕ → ℕ) (k : ℕ) (w : ℕ → ℕ) → Symbols F w → Symbols F (quotientAt F d g k w)
@@ -105,7 +110,7 @@ module _ (bytes : List ℕ) where
 
   module _ (input : List ℕ) (room : ℕ) where
     code-accepted : codeRefusal bytes input room ≡ 0
-        → (refusal width bytes ≡ 0) × AcceptedInput (F .q) (eqb (length input) (messageLength B)) (eqb room (B .n)) input
+        → (refusal width bytes ≡ 0) × AcceptedInput (F .q) (messageFits (messageLength B) (length input)) (eqb room (B .n)) input
     unfolding codeRefusal codeInputRefusal
     code-accepted z = let both = neither (refusal width bytes) _ z in (both .0, accepted-input _ _ _ input (both .1))
 
@@ -123,8 +128,8 @@ module _ (bytes : List ℕ) where
     abbrev ok : refusal width bytes ≡ 0
     ok = code-accepted f room z .0
 
-    size : length f ≡ messageLength B
-    size = eqb→eq (length f) (messageLength B) (code-accepted f room z .1 .size)
+    size : length f ≤ messageLength B
+    size = fits-high (messageLength B) (length f) (code-accepted f room z .1 .size)
 
     symbols : Symbols F (coefficients f)
     symbols = input-symbols F (book-laws bytes ok) (code-accepted f room z .1)
@@ -134,11 +139,11 @@ module _ (bytes : List ℕ) where
     coded-accepted back e =
         ap₂ orElse ok
         (ap₂ orElse
-        (input-accepted (table-input F (B .n) (product F (B .n) (coefficients f) (λ j. B .generator (j % B .n))) (eq→eqb e)
+        (input-accepted (table-input F (B .n) (product F (B .n) (coefficients f) (λ j. B .generator (j % B .n))) (eq→eqb (table-length (B .n) _)) (eq→eqb e)
         (product-below F (book-laws bytes ok) (B .n) (coefficients f) (λ j. B .generator (j % B .n)))))
         (cond-true (isCodeWord F B (at (B .n) (coded bytes f))) 0 12 (encode-code F (book-laws bytes ok) B (book-accepted bytes ok) f size symbols)))
 
-    pub coded-read : messageOf bytes (coded bytes f) ≡ f
+    pub coded-read : messageOf bytes (coded bytes f) ≡ writtenOut B f
     coded-read = message-encode F (book-laws bytes ok) B (book-accepted bytes ok) f size symbols
 
   -- ---- a code word that is not refused
@@ -154,7 +159,7 @@ module _ (bytes : List ℕ) where
     pub message-accepted : (back : ℕ) → back ≡ B .n → codeRefusal bytes (messageOf bytes w) back ≡ 0
     unfolding codeRefusal codeInputRefusal message
     message-accepted back e =
-        ap₂ orElse sound (input-accepted (table-input F (messageLength B) (coefficients Q) (eq→eqb e) (λ j.
+        ap₂ orElse sound (input-accepted (table-input F (messageLength B) (coefficients Q) whole (eq→eqb e) (λ j.
         subst (λ (x : ℕ). x < F .q) (sym (quotient-at F (B .degree) (B .generator) laws pos (B .n) (at (B .n) w) j))
         (quotient-below F laws (B .degree) (B .generator) (B .n) (at (B .n) w) places j))))
       where
@@ -166,6 +171,12 @@ module _ (bytes : List ℕ) where
 
         pos : 0 < B .degree
         pos = book-accepted bytes sound .generates .degree-pos
+
+        -- all k symbols, of which there is one at least
+        whole : T (messageFits (messageLength B) (length (table (messageLength B) (coefficients Q))))
+        whole =
+            subst (λ (m : ℕ). T (messageFits (messageLength B) m)) (sym (table-length (messageLength B) (coefficients Q)))
+            (size-fits (messageLength B) (messageLength B) (omega (arith, book-accepted bytes sound .generates .degree-lt)) (le-refl (messageLength B)))
 
     pub message-coded : coded bytes (messageOf bytes w) ≡ w
     message-coded =

@@ -3,3 +3,4 @@ pub mod Coding
 pub mod Remainder
 pub mod Trips
 pub mod Packed
+pub mod Short

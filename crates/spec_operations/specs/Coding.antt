@@ -8,7 +8,7 @@ use Rattle.spec_field.specs.Field.{FieldOps}
 use Rattle.spec_field.specs.Answer.{orElse}
 use Rattle.spec_book.specs.Book.{Book, messageLength}
 use Rattle.spec_book.specs.Layout.{width, fieldOf, bookOf}
-use Rattle.spec_book.specs.Conditions.{refusal, inputRefusal, codeWordRefusal}
+use Rattle.spec_book.specs.Conditions.{refusal, messageFits, inputRefusal, codeWordRefusal}
 use Rattle.spec_coding.specs.Coder.{encode, message}
 
 module _ (bytes : List ℕ) where
@@ -20,9 +20,9 @@ module _ (bytes : List ℕ) where
   abbrev B : Book
   B = bookOf width bytes
 
-  -- SCOPE 7.18: code, once the book is accepted: 9 to 11 for k symbols and an output of n bytes
+  -- SCOPE 7.18: code, once the book is accepted: 9 to 11 for 1 to k symbols and an output of n bytes
   unfoldable pub codeInputRefusal : List ℕ → ℕ → ℕ
-  codeInputRefusal f room = inputRefusal (F .q) (eqb (length f) (messageLength B)) (eqb room (B .n)) f
+  codeInputRefusal f room = inputRefusal (F .q) (messageFits (messageLength B) (length f)) (eqb room (B .n)) f
 
   -- SCOPE 7.18: code: 1 to 8, then these
   unfoldable pub codeRefusal : List ℕ → ℕ → ℕ

@@ -6,3 +6,4 @@ pub mod Decoding
 pub mod Packed
 pub mod Twice
 pub mod Trips
+pub mod Short

@@ -1,11 +1,11 @@
 -- `coder::code_message` meets its contract.
 -- Assumes nothing.
-use mathlib.Core.Path.{refl, sym, _∙_}
+use mathlib.Core.Path.{sym, _∙_}
 use native.Mathlib.Omega.{arith}
 use lib.ListN.{length}
 use Rattle.spec_operations.proofs.Wrote.{wrote-refused, wrote-made}
 use Rattle.book.proofs.Described.{params-sizes, degree-high}
-use Rattle.coder.proofs.Opening.{code-number, taken}
+use Rattle.coder.proofs.Opening.{code-number, taken, size-at-most}
 use Rattle.coder.proofs.Working.{room-within, rows, word-long, word-coded}
 use borrow.Author.Needs.{needs}
 use Rattle.coder.proofs.code_message.Statement.{statement}
@@ -17,19 +17,27 @@ sub-k c = omega (arith, degree-high _ _ (c .before .before .before .before .pre 
 order-requires : tie.Need-order-requires
 order-requires c κs = params-sizes _ _ (c .before .before .before .before .pre .open-book .describes) .p-high
 
+message-fits-requires : tie.Need-message-fits-requires
+message-fits-requires c κs = search needs
+
 refusal-requires : tie.Need-refusal-requires
 refusal-requires c κs = search needs
 
 returns : tie.Need-returns
-returns c = λ bytes b. wrote-refused (code-number b _ _ (c .before .before .order .ensures) (c .before .refusal .ensures)) (c .if1 .taken)
+returns c =
+    let s = c .before .before in
+    λ bytes b. wrote-refused (code-number b _ _ (s .before .order .ensures) (s .message-fits .ensures) (c .before .refusal .ensures)) (c .if1 .taken)
 
 product-requires : tie.Need-product-requires
 product-requires c κs =
-    let s = c .before in
-    let b = s .before .before .before .before .before .before .pre .open-book in
-    let i = taken _ _ (s .before .order .ensures) (s .refusal .ensures) (c .if1 .left) in
+    let s = c .before .before in
+    let start = s .before .before .before .before .before .before in
+    let a = start .args in
+    let b = start .pre .open-book in
+    let i = taken (a .message .now) (length (a .word .now)) (s .before .order .ensures) (c .before .refusal .ensures) (c .if1 .left) in
     let below = degree-high _ _ (b .describes) in
-    rows b i (omega arith) (omega (arith, i .size-is))
+    let short = size-at-most (s .message-fits .ensures) i in
+    rows b i (omega arith) (omega arith) (omega arith)
 
 slice-aggregate-store : tie.Need-slice-aggregate-store
 slice-aggregate-store c = search needs
@@ -37,13 +45,12 @@ slice-aggregate-store c = search needs
 store-requires : tie.Need-store-requires
 store-requires c κs =
     let r = c .before .before in
-    let s = r .before .before in
+    let s = r .before .before .before in
     let start = s .before .before .before .before .before .before in
     let a = start .args in
     let b = start .pre .open-book in
-    let i = taken (a .message .now) (length (a .word .now)) (s .before .order .ensures) (s .refusal .ensures) (r .before .if1 .left) in
-    let below = degree-high _ _ (b .describes) in
-    room-within b i (omega arith) (r .product .result) (word-long b i (omega arith) (r .product .ensures))
+    let i = taken (a .message .now) (length (a .word .now)) (s .before .order .ensures) (r .before .before .refusal .ensures) (r .before .if1 .left) in
+    room-within b i (omega arith) (r .product .result) (word-long b i _ _ (r .product .ensures))
 
 same-length : tie.Need-same-length
 same-length c = search needs
@@ -51,13 +58,14 @@ same-length c = search needs
 returns-2 : tie.Need-returns-2
 returns-2 c =
     let r = c .before .before .before .before .before in
-    let s = r .before .before in
+    let s = r .before .before .before in
     let z = r .before .if1 .left in
     λ bytes b.
-    let i = taken _ _ (s .before .order .ensures) (s .refusal .ensures) z in
+    let i = taken _ _ (s .before .order .ensures) (r .before .before .refusal .ensures) z in
     let below = degree-high _ _ (b .describes) in
-    wrote-made (sym (code-number b _ _ (s .before .order .ensures) (s .refusal .ensures)) ∙ z)
-    (word-coded b i (omega arith) refl (r .product .ensures) (c .before .before .store .ensures))
+    let short = size-at-most (s .message-fits .ensures) i in
+    wrote-made (sym (code-number b _ _ (s .before .order .ensures) (s .message-fits .ensures) (r .before .before .refusal .ensures)) ∙ z)
+    (word-coded b i (omega arith) (r .product .ensures) (c .before .before .store .ensures))
 
 pub code-message-spec : {M : Type 1} → statement M
 code-message-spec =
@@ -65,6 +73,7 @@ code-message-spec =
     (tie.spec
     sub-k
     order-requires
+    message-fits-requires
     refusal-requires
     returns
     product-requires

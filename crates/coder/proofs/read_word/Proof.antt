@@ -7,7 +7,7 @@ use borrow.Author.Tests.{not-true, not-false}
 use Rattle.spec_operations.proofs.Wrote.{wrote-refused, wrote-made}
 use Rattle.spec_operations.proofs.Coding.{word-refused, no-code-word, code-word}
 use Rattle.book.proofs.Described.{params-sizes, params-degree-sizes, degree-low, degree-high}
-use Rattle.coder.proofs.Opening.{read-number, taken}
+use Rattle.coder.proofs.Opening.{read-number, taken, size-is}
 use Rattle.coder.proofs.Working.{room-within, word-stored, word-tested, word-read}
 use borrow.Author.Needs.{needs}
 use Rattle.coder.proofs.read_word.Statement.{statement}
@@ -34,7 +34,7 @@ load-requires c κs =
     let a = start .args in
     let b = start .pre .open-book in
     let i = taken (a .word .now) (length (a .message .now)) (s .before .order .ensures) (s .refusal .ensures) (c .if1 .left) in
-    (params-sizes _ _ (b .describes) .n-high, omega (arith, i .size-is))
+    (params-sizes _ _ (b .describes) .n-high, omega (arith, size-is i))
 
 divide-requires : tie.Need-divide-requires
 divide-requires c κs =

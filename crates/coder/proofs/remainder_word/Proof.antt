@@ -5,7 +5,7 @@ use native.Mathlib.Omega.{arith}
 use lib.ListN.{length}
 use Rattle.spec_operations.proofs.Wrote.{wrote-refused, wrote-made}
 use Rattle.book.proofs.Described.{params-sizes, params-degree-sizes, degree-low, degree-high}
-use Rattle.coder.proofs.Opening.{remainder-number, taken}
+use Rattle.coder.proofs.Opening.{remainder-number, taken, size-is}
 use Rattle.coder.proofs.Working.{word-stored, word-remainder}
 use borrow.Author.Needs.{needs}
 use Rattle.coder.proofs.remainder_word.Statement.{statement}
@@ -27,7 +27,7 @@ load-requires c κs =
     let a = start .args in
     let b = start .pre .open-book in
     let i = taken (a .word .now) (length (a .out .now)) (s .before .order .ensures) (s .refusal .ensures) (c .if1 .left) in
-    (params-sizes _ _ (b .describes) .n-high, omega (arith, i .size-is))
+    (params-sizes _ _ (b .describes) .n-high, omega (arith, size-is i))
 
 divide-requires : tie.Need-divide-requires
 divide-requires c κs =
