@@ -24,7 +24,7 @@ pub record Book : Type 0 where
   pub dual-count : ℕ
   pub dual : ℕ → ℕ → ℕ
 
--- SCOPE 3.8: k, the length of a message
+-- SCOPE 3.8: k, the length of a full message
 abbrev pub messageLength : Book → ℕ
 messageLength B = B .n - B .degree
 
