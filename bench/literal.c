@@ -96,6 +96,17 @@ static int bad_dual_word(const Book *c, const uint8_t *b)
     return weight(c, sum) != 0;
 }
 
+/* The product of words: "the sum, over all places u", made anew for every place m. */
+static void product_of_words(const Book *c, const uint8_t *a, const uint8_t *b, uint8_t *word)
+{
+    for (int m = 0; m < c->n; m++) {
+        uint8_t sum = 0;
+        for (int u = 0; u < c->n; u++)
+            sum ^= product(c->p, a[u], b[(m + c->n - u) % c->n]);
+        word[m] = sum;
+    }
+}
+
 /* Whether a is the factor times b turned by t. */
 static int is_turned(const Book *c, const uint8_t *a, const uint8_t *b, uint8_t factor, int t)
 {
@@ -266,6 +277,26 @@ uint32_t literal_decode(const uint8_t *book, size_t book_len, const uint8_t *rec
         if (received[j] >= c.q)
             return 11;
     return rounds(&c, received, answer);
+}
+
+/* Places of the message that are not given are zero. */
+uint32_t literal_code(const uint8_t *book, size_t book_len, const uint8_t *message, size_t message_len, uint8_t *word, size_t word_len)
+{
+    Book c;
+    uint8_t whole[63] = {0};
+    unsigned number = refusal(&c, book, book_len);
+    if (number)
+        return number;
+    if (message_len < 1 || message_len > (size_t)(c.n - c.degree))
+        return 9;
+    if (word_len != (size_t)c.n)
+        return 10;
+    for (size_t u = 0; u < message_len; u++)
+        if (message[u] >= c.q)
+            return 11;
+    memcpy(whole, message, message_len);
+    product_of_words(&c, whole, c.g, word);
+    return 0;
 }
 
 uint32_t literal_remainder(const uint8_t *book, size_t book_len, const uint8_t *word, size_t word_len, uint8_t *remainder, size_t remainder_len)
