@@ -48,7 +48,7 @@ typedef struct {
     Term lists[32 * 64];           /* the dual words' terms, one after the other */
     uint8_t exps[64];
     uint16_t rows[64];             /* where the scattered rows start, by symbol */
-    uint8_t multiples[64 * ROW] ALIGNED; /* row c: c times the word, twice */
+    uint8_t multiples[64 * ROW] ALIGNED; /* row c: c times the word, twice; or c times g */
     uint8_t marks[MARKS] ALIGNED;
     int16_t counts[64 * 64] ALIGNED; /* row e: the entries of symbol exp e */
     uint16_t scatter[SCATTER_ROWS * 64] ALIGNED;
@@ -293,15 +293,21 @@ INLINE int packed_products(const Fast *f, const uint8_t *g, const int p, const i
     return zero_below(left, f->k, vecs);
 }
 
-/* The same one dual word at a time, by the multiples of g. */
-INLINE int plain_products(const Fast *f, const uint8_t *g, const int vecs)
+/* The multiples of g, behind k - 1 zeros, so that an offset turns them. */
+static void generator_rows(Fast *f, const uint8_t *g)
 {
-    uint8_t rows[64 * ROW] ALIGNED;
+    memset(f->multiples, 0, 2 * ROW);
+    memcpy(f->multiples + ROW + f->k - 1, g, (size_t)f->d + 1);
+    multiply(f->multiples, f->q, polynomials[f->p], 2 * f->vecs);
+}
+
+/* The same one dual word at a time, by the multiples of g. */
+INLINE int plain_products(Fast *f, const uint8_t *g, const int vecs)
+{
+    const uint8_t *rows = f->multiples;
     int n = f->n;
     Vec left[WORD] = {{0}};
-    memset(rows, 0, 2 * ROW);
-    memcpy(rows + ROW + n - 1 - f->d, g, (size_t)f->d + 1);
-    multiply(rows, f->q, polynomials[f->p], 2 * f->vecs);
+    generator_rows(f, g);
     for (int l = 0; l < f->duals; l++) {
         const uint8_t *b = f->book + AT_DUALS + 1 + 64 * l;
         Vec sum[WORD] = {{0}};
@@ -467,7 +473,7 @@ static int alike(const Fast *f)
     return same && two_alike(f, rows, signature);
 }
 
-INLINE int products_fit_in(const Fast *f, const uint8_t *g, const int vecs)
+INLINE int products_fit_in(Fast *f, const uint8_t *g, const int vecs)
 {
     switch (f->p) {
     case 1: return packed_products(f, g, 1, vecs);
@@ -477,7 +483,7 @@ INLINE int products_fit_in(const Fast *f, const uint8_t *g, const int vecs)
     }
 }
 
-static int products_fit(const Fast *f, const uint8_t *g)
+static int products_fit(Fast *f, const uint8_t *g)
 {
     switch ((f->k + VB - 1) / VB) {
     case 1: return products_fit_in(f, g, 1);
@@ -1091,11 +1097,11 @@ static uint32_t run(Fast *f, const uint8_t *received, uint8_t *word, int *ready,
     return packed('X', f->rounds, 0);
 }
 
-/* A word of n symbols and zeros, or refusal 11. */
-INLINE unsigned take_word(const Fast *f, const uint8_t *received, uint8_t *word)
+/* So many symbols and zeros, or refusal 11. */
+INLINE unsigned take_symbols(const Fast *f, const uint8_t *given, size_t length, uint8_t *word)
 {
     Vec bad = {0};
-    memcpy(word, received, (size_t)f->n);
+    memcpy(word, given, length);
     for (int v = 0; v < WORD; v++)
         bad |= get(word + v * VB);
     return any(bad & all((uint8_t)~(f->q - 1))) ? 11 : 0;
@@ -1104,7 +1110,7 @@ INLINE unsigned take_word(const Fast *f, const uint8_t *received, uint8_t *word)
 static uint32_t decode_word(Fast *f, const uint8_t *received, int *ready, uint8_t *answer)
 {
     uint8_t word[64] ALIGNED = {0};
-    if (take_word(f, received, word))
+    if (take_symbols(f, received, (size_t)f->n, word))
         return 11;
     if (f->p == 1)
         return run_bits(f, received, word, ready, answer, 1);
@@ -1120,7 +1126,20 @@ uint32_t FAST(check)(const uint8_t *book, size_t book_len)
     return number ? number : 256u * (unsigned)f.duals;
 }
 
-/* The word through the shift register: after k steps its top d bits are what is left. Eight bits at a time become bytes by a multiplication. */
+/* Symbols whose digits stand in p numbers. Eight bits at a time become bytes by a multiplication. */
+INLINE void put_symbols(const int p, const uint64_t *digit, int count, uint8_t *out)
+{
+    for (int i = 0; i < count; i += 8) {
+        uint64_t bytes = 0;
+        for (int a = 0; a < p; a++) {
+            uint64_t bits = (digit[a] >> i & 255) * 0x0101010101010101u & 0x8040201008040201u;
+            bytes |= ((bits + 0x7f7f7f7f7f7f7f7fu) >> 7 & 0x0101010101010101u) << a;
+        }
+        memcpy(out + i, &bytes, 8);
+    }
+}
+
+/* The word through the shift register: after k steps its top d bits are what is left. */
 INLINE void divide_by(const int p, const Fast *f, const uint8_t *word, uint64_t (*rows)[6], uint8_t *rest)
 {
     uint64_t state[6];
@@ -1130,14 +1149,9 @@ INLINE void divide_by(const int p, const Fast *f, const uint8_t *word, uint64_t 
         state[a] = plane(word, a) << (64 - f->n);
     for (int i = 0; i < f->k; i++)
         register_step(p, rows, state);
-    for (int i = 0; i < f->d; i += 8) {
-        uint64_t bytes = 0;
-        for (int a = 0; a < p; a++) {
-            uint64_t bits = (state[a] >> (64 - f->d) >> i & 255) * 0x0101010101010101u & 0x8040201008040201u;
-            bytes |= ((bits + 0x7f7f7f7f7f7f7f7fu) >> 7 & 0x0101010101010101u) << a;
-        }
-        memcpy(rest + i, &bytes, 8);
-    }
+    for (int a = 0; a < p; a++)
+        state[a] >>= 64 - f->d;
+    put_symbols(p, state, f->d, rest);
 }
 
 uint32_t FAST(remainder)(const uint8_t *book, size_t book_len, const uint8_t *word, size_t word_len, uint8_t *remainder, size_t remainder_len)
@@ -1152,7 +1166,7 @@ uint32_t FAST(remainder)(const uint8_t *book, size_t book_len, const uint8_t *wo
         return 9;
     if (remainder_len != (size_t)f.d)
         return 10;
-    if (take_word(&f, word, padded))
+    if (take_symbols(&f, word, word_len, padded))
         return 11;
     switch (f.p) {
     case 1: divide_by(1, &f, padded, few, rest); break;
