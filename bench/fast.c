@@ -9,6 +9,7 @@
  *   - for p 6 the counts are scattered instead, dividing again being an offset of rows in the order of logarithms;
  *   - "g divides" is asked of k or n - k places of one product, not by division;
  *   - a remainder is left by a shift register whose cells stand in p numbers, a digit each;
+ *   - a message is coded by products of numbers, a digit of all symbols in each, for p 1 and 2, and else as a sum of multiples of g at offsets;
  *   - dual words of p at most 3 are checked several to a byte;
  *   - dual words that are alike have one signature; those that share one are brought to a normal form, once each.
  */
@@ -1177,6 +1178,82 @@ uint32_t FAST(remainder)(const uint8_t *book, size_t book_len, const uint8_t *wo
     default: divide_by(6, &f, padded, f.steps, rest); break;
     }
     memcpy(remainder, rest, remainder_len);
+    return 0;
+}
+
+/*
+ * A product of polynomials over GF(2), of degree 63 at most, by products of numbers. Factors keep every fourth digit, so that a sum of up to 15
+ * ones stays clear of the next column that is read. Only columns at the top have 16, and their carry falls out.
+ */
+INLINE uint64_t bit_product(uint64_t a, uint64_t b)
+{
+    const uint64_t kept = 0x1111111111111111u;
+    uint64_t product = 0;
+    for (int i = 0; i < 4; i++) {
+        uint64_t sum = 0;
+        for (int j = 0; j < 4; j++)
+            sum ^= (a & kept << j) * (b & kept << ((i - j) & 3));
+        product |= sum & kept << i;
+    }
+    return product;
+}
+
+/* Message times g, for p 1 and 2. The kind byte before g falls out, and 64 bytes are read. */
+INLINE void code_bits(const int p, const Fast *f, const uint8_t *message, uint8_t *word)
+{
+    const uint8_t *g = f->book + AT_G - 1;
+    uint64_t low = plane(message, 0), g_low = plane(g, 0) >> 1, digit[2];
+    digit[0] = bit_product(low, g_low);
+    if (p == 2) {
+        uint64_t high = plane(message, 1), g_high = plane(g, 1) >> 1;
+        digit[1] = digit[0] ^ bit_product(low ^ high, g_low ^ g_high);
+        digit[0] ^= bit_product(high, g_high);
+    }
+    put_symbols(p, digit, f->n, word);
+}
+
+/* Message times g, as a sum of multiples of g, each turned by its place in the message. */
+INLINE void code_rows(const Fast *f, const uint8_t *message, int length, const int vecs, uint8_t *word)
+{
+    Vec sum[WORD] = {{0}};
+    for (int u = 0; u < length; u++)
+        for (int v = 0; v < vecs; v++)
+            sum[v] ^= get(f->multiples + message[u] * ROW + f->k - 1 - u + v * VB);
+    for (int v = 0; v < vecs; v++)
+        put(word + v * VB, sum[v]);
+}
+
+/* From p 4 on the check has left the rows. */
+static void code_symbols(Fast *f, const uint8_t *message, int length, uint8_t *word)
+{
+    if (f->p <= 3)
+        generator_rows(f, f->book + AT_G);
+    switch (f->vecs) {
+    case 1: code_rows(f, message, length, 1, word); break;
+    case 2: code_rows(f, message, length, 2, word); break;
+    default: code_rows(f, message, length, WORD, word); break;
+    }
+}
+
+uint32_t FAST(code)(const uint8_t *book, size_t book_len, const uint8_t *message, size_t message_len, uint8_t *word, size_t word_len)
+{
+    Fast f;
+    uint8_t padded[64] ALIGNED = {0}, product[64] ALIGNED;
+    unsigned number = refusal(&f, book, book_len);
+    if (number)
+        return number;
+    if (message_len < 1 || message_len > (size_t)f.k)
+        return 9;
+    if (word_len != (size_t)f.n)
+        return 10;
+    if (take_symbols(&f, message, message_len, padded))
+        return 11;
+    switch (f.p) {
+    case 1: code_bits(1, &f, padded, product); break;
+    case 2: code_bits(2, &f, padded, product); break;
+    default: code_symbols(&f, padded, (int)message_len, product); break;
+    }
+    memcpy(word, product, word_len);
     return 0;
 }
 
