@@ -26,12 +26,18 @@ COMPILED(clang_avx2)
 enum { OURS, LITERAL, GCC, CLANG, GCC_AVX2, CLANG_AVX2, WAYS, WORDS = 4, LEAST_TURNS = 60, LONGEST_BOOK = 2118, CLEAN = 0, ONE_ROUND, MOST_ROUNDS, CLASSES };
 
 typedef uint32_t Check(const uint8_t *, size_t);
-typedef uint32_t Decode(const uint8_t *, size_t, const uint8_t *, size_t, uint8_t *, size_t);
-typedef Decode Remainder;
+typedef uint32_t Call(const uint8_t *, size_t, const uint8_t *, size_t, uint8_t *, size_t);
+
+/* A call by every way, and what is said where two differ. */
+typedef struct {
+    const char *differ;
+    Call *calls[WAYS];
+} Operation;
 
 static Check *const checks[WAYS] = {shiftsum_check, literal_check, gcc_check, clang_check, gcc_avx2_check, clang_avx2_check};
-static Decode *const decodes[WAYS] = {shiftsum_decode, literal_decode, gcc_decode, clang_decode, gcc_avx2_decode, clang_avx2_decode};
-static Remainder *const remainders[WAYS] = {shiftsum_remainder, literal_remainder, gcc_remainder, clang_remainder, gcc_avx2_remainder, clang_avx2_remainder};
+static const Operation decoding = {"answers differ", {shiftsum_decode, literal_decode, gcc_decode, clang_decode, gcc_avx2_decode, clang_avx2_decode}};
+static const Operation dividing = {"remainders differ", {shiftsum_remainder, literal_remainder, gcc_remainder, clang_remainder, gcc_avx2_remainder,
+                                                         clang_avx2_remainder}};
 static const char *const class_names[CLASSES] = {"clean", "one round", "most rounds"};
 
 typedef struct {
@@ -41,11 +47,13 @@ typedef struct {
     unsigned q, duals, weight;
 } Book;
 
-/* Words of one class; all have the same number of rounds. They are decoded, or only divided. */
+/* Words of one class; all have the same number of rounds. What is made of them, and how long it is. */
 typedef struct {
     uint8_t word[WORDS][63];
-    int count, rounds, divided;
+    int count, rounds;
     char kind;
+    const Operation *operation;
+    size_t in, out;
 } Class;
 
 static int ways = WAYS; /* fewer where the machine has no AVX2 */
@@ -117,18 +125,18 @@ static void make_word(const Book *b, int errors, uint8_t *word)
         word[random64() % b->n] ^= (uint8_t)(random64() % b->q);
 }
 
-/* Result and answer of every way, the transcription's only where it is asked for. */
-static uint32_t agreed(const Book *b, const uint8_t *word, int with_literal)
+/* Result and output of every way, the transcription's only where it is asked for. */
+static uint32_t agreed(const Operation *o, const Book *b, const uint8_t *word, size_t in, size_t out, int with_literal)
 {
-    uint8_t first[63], other[63];
+    uint8_t first[64], other[64];
     memset(first, 0xee, sizeof first); /* a refused call writes nothing */
-    uint32_t result = gcc_decode(b->bytes, b->len, word, b->n, first, b->n);
+    uint32_t result = o->calls[GCC](b->bytes, b->len, word, in, first, out);
     for (int w = 0; w < ways; w++) {
         if (w == LITERAL && !with_literal)
             continue;
         memset(other, 0xee, sizeof other);
-        if (decodes[w](b->bytes, b->len, word, b->n, other, b->n) != result || memcmp(first, other, b->n) != 0)
-            fail("answers differ", b->name);
+        if (o->calls[w](b->bytes, b->len, word, in, other, out) != result || memcmp(first, other, sizeof first) != 0)
+            fail(o->differ, b->name);
     }
     return result;
 }
@@ -137,7 +145,9 @@ static uint32_t agreed(const Book *b, const uint8_t *word, int with_literal)
 static void find(const Book *b, int class, int trials, Class *c)
 {
     uint8_t word[63], answer[63];
-    c->count = c->divided = 0;
+    c->operation = &decoding;
+    c->in = c->out = b->n;
+    c->count = 0;
     c->rounds = class == CLEAN ? 0 : 1;
     for (int i = 0; i < trials && (class == MOST_ROUNDS || c->count < WORDS); i++) {
         make_word(b, class == CLEAN ? 0 : 1 + (int)(random64() % (1 + (class == ONE_ROUND ? 2 : b->n / 2))), word);
@@ -154,7 +164,7 @@ static void find(const Book *b, int class, int trials, Class *c)
         memcpy(c->word[c->count++], word, 63);
     }
     for (int i = 0; i < c->count; i++)
-        agreed(b, c->word[i], i == 0);
+        agreed(&decoding, b, c->word[i], b->n, b->n, i == 0);
 }
 
 /* One run of `times` calls; the words in turn. No word: the check. */
@@ -163,10 +173,8 @@ static double run(const Book *b, const Class *c, int way, long times)
     uint8_t answer[63];
     double start = microseconds();
     for (long i = 0; i < times; i++)
-        if (c && c->divided)
-            remainders[way](b->bytes, b->len, c->word[i % c->count], b->n, answer, b->n - b->k);
-        else if (c)
-            decodes[way](b->bytes, b->len, c->word[i % c->count], b->n, answer, b->n);
+        if (c)
+            c->operation->calls[way](b->bytes, b->len, c->word[i % c->count], c->in, answer, c->out);
         else
             checks[way](b->bytes, b->len);
     return (microseconds() - start) / (double)times;
@@ -229,7 +237,7 @@ static void random_words_agree(const Book *b)
         make_word(b, i % 16, word);
         if (i % 40 == 39)
             word[random64() % b->n] = (uint8_t)random64(); /* refused, mostly */
-        agreed(b, word, b->n < 63);
+        agreed(&decoding, b, word, b->n, b->n, b->n < 63);
     }
 }
 
@@ -339,24 +347,15 @@ static void whole_decodes(const char *folder)
     dear_checks(folder);
 }
 
-/* Result and remainder of every way, the transcription's of few words at n 63; of a word refused now and then, and with an output of another size. */
+/* The transcription divides few words at n 63. Now and then a word is refused, and an output of another size. */
 static void remainders_agree(const Book *b)
 {
-    uint8_t word[63], first[64], other[64];
+    uint8_t word[63];
     for (int i = 0; i < 400; i++) {
-        size_t size = b->n - b->k + (i % 50 == 49);
         make_word(b, i % 16, word);
         if (i % 40 == 39)
             word[random64() % b->n] = (uint8_t)random64();
-        memset(first, 0xee, sizeof first);
-        uint32_t result = gcc_remainder(b->bytes, b->len, word, b->n, first, size);
-        for (int w = 0; w < ways; w++) {
-            if (w == LITERAL && b->n == 63 && i % 10 != 9)
-                continue;
-            memset(other, 0xee, sizeof other);
-            if (remainders[w](b->bytes, b->len, word, b->n, other, size) != result || memcmp(first, other, sizeof first) != 0)
-                fail("remainders differ", b->name);
-        }
+        agreed(&dividing, b, word, b->n, b->n - b->k + (i % 50 == 49), b->n < 63 || i % 10 == 9);
     }
 }
 
@@ -371,7 +370,8 @@ static void whole_remainders(const char *folder)
         load(&b, folder, books[i]);
         remainders_agree(&b);
         find(&b, ONE_ROUND, 4000, &c);
-        c.divided = 1;
+        c.operation = &dividing;
+        c.out = b.n - b.k;
         measure(&b, &c, 4e5, t);
         row(books[i], "remainder", t);
     }
