@@ -1,6 +1,7 @@
 /*
- * Measures the library against the transcription (literal.c) and the best C (fast.c, four times compiled): whole decodes, checks, rounds, growth and
- * remainders. Every time is the least of many short runs, taken in turns, since the machine may be shared. First all must agree on every word.
+ * Measures the library against the transcription (literal.c) and the best C (fast.c, four times compiled): whole decodes, checks, rounds, growth,
+ * remainders and coding. Every time is the least of many short runs, taken in turns, since the machine may be shared. First all must agree on every
+ * word.
  *
  *   bench BOOKS OUT                       writes OUT/table.txt, OUT/table.md, OUT/table.csv, OUT/growth.csv
  *   bench words BOOKS BOOK CLASS COUNT    the book and words of a class (clean, one), as decode_stream reads them
@@ -17,6 +18,7 @@
 
 #define COMPILED(name) \
     uint32_t name##_check(const uint8_t *, size_t); \
+    uint32_t name##_code(const uint8_t *, size_t, const uint8_t *, size_t, uint8_t *, size_t); \
     uint32_t name##_remainder(const uint8_t *, size_t, const uint8_t *, size_t, uint8_t *, size_t); \
     uint32_t name##_decode(const uint8_t *, size_t, const uint8_t *, size_t, uint8_t *, size_t);
 COMPILED(clang)
@@ -38,6 +40,7 @@ static Check *const checks[WAYS] = {shiftsum_check, literal_check, gcc_check, cl
 static const Operation decoding = {"answers differ", {shiftsum_decode, literal_decode, gcc_decode, clang_decode, gcc_avx2_decode, clang_avx2_decode}};
 static const Operation dividing = {"remainders differ", {shiftsum_remainder, literal_remainder, gcc_remainder, clang_remainder, gcc_avx2_remainder,
                                                          clang_avx2_remainder}};
+static const Operation coding = {"code words differ", {shiftsum_code, literal_code, gcc_code, clang_code, gcc_avx2_code, clang_avx2_code}};
 static const char *const class_names[CLASSES] = {"clean", "one round", "most rounds"};
 
 typedef struct {
@@ -47,7 +50,7 @@ typedef struct {
     unsigned q, duals, weight;
 } Book;
 
-/* Words of one class; all have the same number of rounds. What is made of them, and how long it is. */
+/* Words of one class, all with the same number of rounds, or messages; what is made of them, and the sizes of input and output. */
 typedef struct {
     uint8_t word[WORDS][63];
     int count, rounds;
@@ -359,7 +362,7 @@ static void remainders_agree(const Book *b)
     }
 }
 
-/* Words with errors, as a receiver sorts them. Last of all, so that no other row has other words for it. */
+/* Words with errors, as a receiver sorts them. After the decodes, so that none of their rows has other words for it. */
 static void whole_remainders(const char *folder)
 {
     double t[WAYS];
@@ -374,6 +377,54 @@ static void whole_remainders(const char *folder)
         c.out = b.n - b.k;
         measure(&b, &c, 4e5, t);
         row(books[i], "remainder", t);
+    }
+}
+
+/* The transcription codes few messages at n 63. No symbol and one too many are refused by 9; now and then a large symbol is, or another size. */
+static void codes_agree(const Book *b)
+{
+    uint8_t message[64];
+    for (int i = 0; i < 400; i++) {
+        size_t length = i % 40 == 19 ? 0 : i % 40 == 39 ? b->k + 1 : 1 + random64() % b->k;
+        for (size_t u = 0; u < length; u++)
+            message[u] = (uint8_t)(random64() % (i % 30 == 29 ? 256 : b->q));
+        uint32_t result = agreed(&coding, b, message, length, b->n + (i % 50 == 49), b->n < 63 || i % 10 == 9);
+        if ((result == 9) != (length == 0 || length > b->k))
+            fail("the wrong lengths are refused", b->name);
+    }
+}
+
+/* Random messages of so many symbols. */
+static void draw_messages(const Book *b, size_t length, Class *c)
+{
+    c->operation = &coding;
+    c->in = length;
+    c->out = b->n;
+    c->count = WORDS;
+    for (size_t i = 0; i < WORDS * length; i++)
+        c->word[i / length][i % length] = (uint8_t)(random64() % b->q);
+    for (int i = 0; i < WORDS; i++)
+        agreed(&coding, b, c->word[i], length, b->n, i == 0);
+}
+
+/* Full messages, half ones and single symbols. Last of all, so that no other row has other words for it. */
+static void whole_codes(const char *folder)
+{
+    double t[WAYS];
+    char label[32];
+    heading("Coding a message over the C boundary, the book checked in each call", "book", "symbols of k");
+    for (int i = 0; i < BOOKS; i++) {
+        Book b;
+        Class c;
+        load(&b, folder, books[i]);
+        codes_agree(&b);
+        const size_t lengths[3] = {b.k, (b.k + 1) / 2, 1};
+        for (int j = 0; j < 3; j++) {
+            draw_messages(&b, lengths[j], &c);
+            measure(&b, &c, 4e5, t);
+            snprintf(label, sizeof label, "%zu of %zu", lengths[j], b.k);
+            row(books[i], label, t);
+        }
     }
 }
 
@@ -523,5 +574,6 @@ int main(int count, char **given)
     split(given[1]);
     growths(given[1]);
     whole_remainders(given[1]);
+    whole_codes(given[1]);
     return 0;
 }
