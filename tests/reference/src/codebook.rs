@@ -36,7 +36,7 @@ impl Codebook {
         self.shape.field.q()
     }
 
-    /// "k = n - degree", the length of a message; 1 or more.
+    /// "k = n - degree", the length of a full message; 1 or more.
     pub fn k(&self) -> usize {
         self.shape.n - self.degree
     }

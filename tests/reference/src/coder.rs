@@ -20,13 +20,16 @@ pub fn remainder(book: &[u8], word: &[u8], remainder: &mut [u8]) -> Result<(), u
 }
 
 impl Codebook {
-    /// "Code k message symbols f into f x g." The degree of the product is
-    /// below n, so that modulo x^n - 1 nothing wraps round.
+    /// "Code takes 1 to k symbols; the missing high ones are zero", and
+    /// writes f x g. The degree of the product is below n, so that modulo
+    /// x^n - 1 nothing wraps round.
     pub fn code(&self, message: &[u8], word: &mut [u8]) -> Result<(), u8> {
-        refuse(9, message.len() != self.k())?;
+        refuse(9, message.is_empty() || message.len() > self.k())?;
         refuse(10, word.len() != self.n())?;
         self.field().admit(message)?;
-        let product = word::product(self.field(), self.generator(), message);
+        let mut full = message.to_vec();
+        full.resize(self.k(), 0);
+        let product = word::product(self.field(), self.generator(), &full);
         word.copy_from_slice(&product);
         Ok(())
     }

@@ -3,7 +3,7 @@
 use std::collections::{BTreeMap, BTreeSet};
 
 use reference::books::symbols;
-use reference::codebook::check;
+use reference::codebook::{check, Codebook};
 use reference::field::Field;
 use reference::generate::{self, damage, damage_all, Random, SHAPES};
 use reference::{coder, decode, matrix, stream, word};
@@ -303,27 +303,27 @@ fn generated_words_are_what_they_say() {
     assert_eq!((clean, erred, bad, wrong), (200, 200, 200, 200));
 }
 
-#[test]
-fn words_and_messages_of_any_sort_are_of_every_sort() {
+/// Runs the trial ten times on each of many codebooks; the answers that it
+/// names must be just those due, each many times.
+fn answers(due: &[&str], trial: impl Fn(&Codebook, &mut Random) -> Vec<String>) {
     let mut answers: BTreeMap<String, usize> = BTreeMap::new();
     for seed in 0..200 {
         let mut random = Random::new(seed);
         let bytes = generate::any_book(&mut random);
         let book = check(&bytes).expect("accepted");
-        for _ in 0..10 {
-            let mut message = vec![0; book.k()];
-            let word = generate::any_word(&book, &mut random);
-            let read = book.read(&word, &mut message);
-            *answers.entry(format!("read {read:?}")).or_default() += 1;
-            let mut rest = vec![0; book.n() - book.k()];
-            let divided = book.remainder(&word, &mut rest);
-            *answers.entry(format!("remainder {divided:?}")).or_default() += 1;
-            let mut word = vec![0; book.n()];
-            let message = generate::any_message(&book, &mut random);
-            let coded = book.code(&message, &mut word);
-            *answers.entry(format!("code {coded:?}")).or_default() += 1;
+        for answer in (0..10).flat_map(|_| trial(&book, &mut random)) {
+            *answers.entry(answer).or_default() += 1;
         }
     }
+    for &due in due {
+        let count = answers.remove(due).unwrap_or(0);
+        assert!(count > 100, "{due}: {count}");
+    }
+    assert!(answers.is_empty(), "{answers:?}");
+}
+
+#[test]
+fn words_of_any_sort_are_of_every_sort() {
     let due = [
         "read Ok(())",
         "read Err(9)",
@@ -332,17 +332,37 @@ fn words_and_messages_of_any_sort_are_of_every_sort() {
         "remainder Ok(())",
         "remainder Err(9)",
         "remainder Err(11)",
-        "code Ok(())",
-        "code Err(9)",
-        "code Err(11)",
     ];
-    for due in due {
-        assert!(
-            answers.remove(due).is_some_and(|count| count > 100),
-            "{due}"
-        );
-    }
-    assert!(answers.is_empty(), "{answers:?}");
+    answers(&due, |book, random| {
+        let (mut message, mut rest) = (vec![0; book.k()], vec![0; book.n() - book.k()]);
+        let word = generate::any_word(book, random);
+        let read = book.read(&word, &mut message);
+        let divided = book.remainder(&word, &mut rest);
+        vec![format!("read {read:?}"), format!("remainder {divided:?}")]
+    });
+}
+
+#[test]
+fn messages_of_any_sort_are_of_every_sort() {
+    let due = [
+        "no symbol Err(9)",
+        "short Ok(())",
+        "short Err(11)",
+        "full Ok(())",
+        "full Err(11)",
+        "long Err(9)",
+    ];
+    answers(&due, |book, random| {
+        let message = generate::any_message(book, random);
+        let length = match message.len() {
+            0 => "no symbol",
+            length if length < book.k() => "short",
+            length if length == book.k() => "full",
+            _ => "long",
+        };
+        let coded = book.code(&message, &mut vec![0; book.n()]);
+        vec![format!("{length} {coded:?}")]
+    });
 }
 
 #[test]

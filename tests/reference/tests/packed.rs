@@ -20,6 +20,10 @@ fn code_read_and_remainder_have_nothing_more() {
     assert_eq!(word[..], symbols("1101000"));
     assert_eq!(packed::read(&books::a(), &word, &mut message), 0);
     assert_eq!(message[..], symbols("1000"));
+    assert_eq!(packed::code(&books::a(), &symbols("11"), &mut word), 0);
+    assert_eq!(word[..], symbols("1011100"));
+    assert_eq!(packed::code(&books::a(), &symbols("2"), &mut word), 11);
+    assert_eq!(packed::code(&books::a(), &[], &mut word), 9);
     assert_eq!(packed::code(&books::a(), &symbols("10000"), &mut word), 9);
     assert_eq!(packed::code(&[], &symbols("1000"), &mut word), 1);
     assert_eq!(

@@ -271,8 +271,12 @@ fn row_8_any_two_dual_words() {
 fn row_9_input_length() {
     let book = books::a();
     refused_code(&book, &symbols("10000"), 7, 9);
-    for length in [0, 1, 3, 5, 7, 200] {
+    for length in [0, 5, 6, 7, 8, 63, 64, 200] {
         refused_code(&book, &vec![0; length], 7, 9);
+    }
+    // Up to k, which is 4, no length is.
+    for length in 1..=4 {
+        assert_eq!(code(&book, &vec![0; length], &mut [0xa5; 7]), Ok(()));
     }
     for length in [0, 1, 4, 6, 8, 63, 300] {
         refused_read(&book, &vec![0; length], 4, 9);
@@ -292,7 +296,9 @@ fn row_10_output_size() {
         refused_decode(&book, &word, (7, size), 10);
     }
     for size in [0, 1, 4, 6, 8, 63] {
-        refused_code(&book, &symbols("1000"), size, 10);
+        for message in ["1", "01", "101", "1000"] {
+            refused_code(&book, &symbols(message), size, 10);
+        }
         refused_decode(&book, &word, (size, 14), 10);
         refused_decode(&book, &word, (size, 13), 10);
     }
@@ -315,8 +321,12 @@ fn row_11_input_symbols() {
         refused_matrix(&book, &word, 14, 11);
         refused_decode(&book, &word, (7, 14), 11);
     }
-    refused_code(&book, &symbols("0002"), 7, 11);
+    for message in ["0002", "2", "3", "12", "20", "002", "020"] {
+        refused_code(&book, &symbols(message), 7, 11);
+    }
     refused_code(&book, &[255, 0, 0, 0], 7, 11);
+    refused_code(&book, &[255], 7, 11);
+    refused_code(&books::c(), &symbols("4"), 3, 11);
     refused_remainder(&books::b(), &symbols("141"), 2, 11);
     refused_decode(&books::b(), &symbols("141"), (3, 12), 11);
     for p in 1..=6 {
@@ -417,12 +427,17 @@ fn of_two_faults_in_a_call_the_smaller_number_is_returned() {
     let (long, bad, no_code_word) = (symbols("20000000"), symbols("2000000"), symbols("1000000"));
     // 9 before 10 and 11.
     refused_code(&book, &long, 6, 9);
+    refused_code(&book, &symbols("20000"), 7, 9);
+    refused_code(&book, &symbols("20000"), 6, 9);
+    refused_code(&book, &[], 6, 9);
     refused_read(&book, &long, 5, 9);
     refused_remainder(&book, &long, 4, 9);
     refused_matrix(&book, &long, 13, 9);
     refused_decode(&book, &long, (6, 13), 9);
     // 10 before 11 and 12.
     refused_code(&book, &symbols("2000"), 6, 10);
+    refused_code(&book, &symbols("2"), 6, 10);
+    refused_code(&book, &symbols("12"), 8, 10);
     refused_read(&book, &bad, 5, 10);
     refused_read(&book, &no_code_word, 5, 10);
     refused_remainder(&book, &bad, 4, 10);

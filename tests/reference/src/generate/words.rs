@@ -15,9 +15,14 @@ pub fn arbitrary(length: usize, q: u8, random: &mut Random) -> Vec<u8> {
         .collect()
 }
 
-/// A message of k symbols.
+/// A message of k symbols, a full one.
 pub fn message(book: &Codebook, random: &mut Random) -> Vec<u8> {
     arbitrary(book.k(), book.q(), random)
+}
+
+/// A message of 1 to k symbols, both ends met often.
+pub fn short_message(book: &Codebook, random: &mut Random) -> Vec<u8> {
+    arbitrary(random.between(1, book.k()), book.q(), random)
 }
 
 /// A multiple of g.
@@ -48,7 +53,8 @@ pub fn bad_symbol(mut symbols: Vec<u8>, q: u8, random: &mut Random) -> Vec<u8> {
     symbols
 }
 
-/// The symbols given cut or lengthened, never as long as they were.
+/// The symbols given cut or lengthened, never as long as they were. No word
+/// may be; a message that is cut may still be coded.
 pub fn wrong_length(mut symbols: Vec<u8>, q: u8, random: &mut Random) -> Vec<u8> {
     let length = symbols.len();
     if random.once_in(2) && length > 0 {
@@ -79,12 +85,16 @@ pub fn any_word(book: &Codebook, random: &mut Random) -> Vec<u8> {
     }
 }
 
-/// A message of any sort: mostly of k symbols, now and then refused.
+/// A message of any sort: full, short, with bad symbols, too long, or none.
 pub fn any_message(book: &Codebook, random: &mut Random) -> Vec<u8> {
-    let message = message(book, random);
+    let full = message(book, random);
+    let short = short_message(book, random);
     match random.below(8) {
-        0 => bad_symbol(message, book.q(), random),
-        1 => wrong_length(message, book.q(), random),
-        _ => message,
+        0 => bad_symbol(full, book.q(), random),
+        1 => bad_symbol(short, book.q(), random),
+        2 => wrong_length(full, book.q(), random),
+        3 => Vec::new(),
+        4 | 5 => short,
+        _ => full,
     }
 }
