@@ -19,16 +19,22 @@ impl Trial<'_> {
     /// Fails unless library and second implementation return one number and
     /// leave one output, and the library touches nothing else.
     pub fn compare(&self) -> Given {
-        let given = guarded(self.operation, self.book, self.input, self.held)
-            .unwrap_or_else(|touched| panic!("written to: {touched:?}\n{self}"));
         let mut output = self.held.to_vec();
         let result = self.operation.reference(self.book, self.input, &mut output);
+        self.against(result, &output)
+    }
+
+    /// Fails unless the library returns the number and leaves the output that
+    /// are expected, and touches nothing else.
+    pub fn against(&self, result: u32, output: &[u8]) -> Given {
+        let given = guarded(self.operation, self.book, self.input, self.held)
+            .unwrap_or_else(|touched| panic!("written to: {touched:?}\n{self}"));
         assert!(
             given.result == result && given.output == output,
             "library:  {:#010x} {}\nexpected: {result:#010x} {}\n{self}",
             given.result,
             hex(&given.output),
-            hex(&output),
+            hex(output),
         );
         given
     }

@@ -1,4 +1,5 @@
-//! The ways of damage, so that a test can tell that it met every one.
+//! The ways of damage, and the lengths of a message, so that a test can tell
+//! that it met every one.
 
 use reference::field::Field;
 use reference::generate::likeness;
@@ -46,6 +47,39 @@ pub const WAYS: [&str; 37] = [
     "8 turned and scaled copy added",
     "8 turned and scaled copy replaced",
 ];
+
+/// Every number that code can return for every sort of length, if nothing is
+/// wrong with the codebook.
+pub const LENGTHS: [&str; 15] = [
+    "0 k is 1",
+    "0 one symbol",
+    "0 short",
+    "0 full",
+    "9 length 0",
+    "9 k + 1",
+    "9 above k + 1",
+    "10 k is 1",
+    "10 one symbol",
+    "10 short",
+    "10 full",
+    "11 k is 1",
+    "11 one symbol",
+    "11 short",
+    "11 full",
+];
+
+/// The sort of a message's length. Where k is 1, one symbol is not short.
+pub fn length(k: usize, message: &[u8]) -> &'static str {
+    match message.len() {
+        0 => "length 0",
+        1 if k == 1 => "k is 1",
+        length if length == k => "full",
+        1 => "one symbol",
+        length if length < k => "short",
+        length if length == k + 1 => "k + 1",
+        _ => "above k + 1",
+    }
+}
 
 /// In which way an accepted codebook was damaged so that the condition holds.
 pub fn way(book: &Book, fault: u8, damaged: &[u8]) -> String {

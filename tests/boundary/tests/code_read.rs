@@ -4,7 +4,7 @@
 use boundary::compare::{hex, Trial};
 use boundary::draw::{self, Book};
 use boundary::tally::Tally;
-use boundary::way::{copy, COPIES};
+use boundary::way::{copy, length, COPIES, LENGTHS};
 use boundary::{code, read, refusal, Given, Operation};
 use reference::generate::{self, Random, SHAPES};
 
@@ -22,6 +22,7 @@ fn books(s: u8) -> u32 {
 fn input(operation: Operation, book: &Book, random: &mut Random) -> Vec<u8> {
     let (book, q) = (&book.parts, book.parts.q());
     let right = match operation {
+        Operation::Code if random.once_in(2) => generate::short_message(book, random),
         Operation::Code => generate::message(book, random),
         _ => generate::code_word(book, random),
     };
@@ -63,6 +64,10 @@ fn count(trial: &Trial, given: &Given, book: &Book, tally: &mut Tally) {
     let (number, size) = (refusal(given.result), trial.held.len());
     tally.tried();
     tally.count("result", number);
+    if trial.operation == Operation::Code && !(1..=8).contains(&number) {
+        let sort = length(book.parts.k(), trial.input);
+        tally.count("way", format!("{number} {sort}"));
+    }
     if number == 0 && trial.operation == Operation::Remainder {
         let zero = given.output.iter().all(|&symbol| symbol == 0);
         tally.count("remainder", if zero { "zero" } else { "not zero" });
@@ -121,7 +126,7 @@ fn due(tally: Tally) -> Tally {
 
 #[test]
 fn code_is_the_references() {
-    let mut tally = due(Tally::new("code").due("result", 0..=11));
+    let mut tally = due(Tally::new("code").due("result", 0..=11)).due("way", LENGTHS);
     calls(Operation::Code, 1, &mut tally);
     tally.finish(40);
 }
