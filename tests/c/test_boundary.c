@@ -177,7 +177,14 @@ static void codes(const char *name, const uint8_t *book, const char *message, co
     gives(name, shiftsum_read, book, word, message, 0);
 }
 
-/* The remainder of a word, which read takes exactly if it is zero; k is the length of a message. */
+/* A short message: its missing high symbols are zero, so that it has the word of the full one, which is the one that read gives. */
+static void codes_short(const char *name, const uint8_t *book, const char *message, const char *full, const char *word)
+{
+    gives(name, shiftsum_code, book, message, word, 0);
+    codes(name, book, full, word);
+}
+
+/* The remainder of a word, which read takes exactly if it is zero; k is the length of a full message. */
 static void leaves(const char *name, const uint8_t *book, const char *word, const char *rest, size_t k)
 {
     uint8_t in[LARGEST], message[LARGEST];
@@ -259,6 +266,23 @@ static void test_cases(void)
     decodes("case 13", book_c, "100", SHIFTSUM_STALLED, 1, 0, "100");
     decodes("case 14", with(book_c, AT_D, 3), "100", SHIFTSUM_MENDED, 1, 3, "032");
     decodes("the program's third word", book_a, "1101000", SHIFTSUM_CLEAN, 0, 0, "1101000");
+}
+
+/* By hand: A's 1 + x + x^3 and C's 2 + x, moved up, multiplied and added. B has k 1, and so no short message. */
+static void test_short_messages(void)
+{
+    codes_short("A, 1", book_a, "1", "1000", "1101000");
+    codes_short("A, 11", book_a, "11", "1100", "1011100");
+    codes_short("A, 01", book_a, "01", "0100", "0110100");
+    codes_short("A, 101", book_a, "101", "1010", "1110010");
+    codes_short("A, 100", book_a, "100", "1000", "1101000");
+    codes_short("A, 0", book_a, "0", "0000", "0000000");
+    codes_short("C, 1", book_c, "1", "10", "210");
+    codes_short("C, 3", book_c, "3", "30", "130");
+    codes_short("C, 0", book_c, "0", "00", "000");
+    codes("B, 1", book_b, "1", "111");
+    codes("B, 2", book_b, "2", "222");
+    codes("B, 0", book_b, "0", "000");
 }
 
 /* By hand: modulo A's 1 + x + x^3, B's 1 + x + x^2 and C's 2 + x. */
@@ -390,23 +414,78 @@ static void test_refused_calls(void)
     refuses("refusals 10 and 12", shiftsum_read, book_a, "1000000", 5, 10);
 }
 
+/* No symbols, more than k, and short messages that are refused for something else. */
+static void test_refused_lengths(void)
+{
+    refuses("refusal 9: A, 7 symbols, as many as a word has", shiftsum_code, book_a, "1101000", WORD_A, 9);
+    refuses("refusal 9: A, 8 symbols", shiftsum_code, book_a, "11010000", WORD_A, 9);
+    refuses("refusal 9: B, no symbols", shiftsum_code, book_b, "", 3, 9);
+    refuses("refusal 9: B, 2 symbols", shiftsum_code, book_b, "10", 3, 9);
+    refuses("refusal 9: C, no symbols", shiftsum_code, book_c, "", 3, 9);
+    refuses("refusal 9: C, 3 symbols", shiftsum_code, book_c, "100", 3, 9);
+    refuses("refusal 10: one symbol to a word of 6", shiftsum_code, book_a, "1", 6, 10);
+    refuses("refusal 10: one symbol to a word of 1", shiftsum_code, book_a, "1", 1, 10);
+    refuses("refusal 10: one symbol to no word", shiftsum_code, book_a, "1", 0, 10);
+    refuses("refusal 11: A, code 2", shiftsum_code, book_a, "2", WORD_A, 11);
+    refuses("refusal 11: A, code 012", shiftsum_code, book_a, "012", WORD_A, 11);
+    refuses("refusal 11: C, code 4", shiftsum_code, book_c, "4", 3, 11);
+    refuses("refusals 9 and 10", shiftsum_code, book_a, "", 6, 9);
+    refuses("refusals 9 and 10", shiftsum_code, book_a, "10000", 8, 9);
+    refuses("refusals 9 and 11", shiftsum_code, book_a, "20000", WORD_A, 9);
+    refuses("refusals 9, 10 and 11", shiftsum_code, book_a, "00002", 6, 9);
+    refuses("refusals 10 and 11", shiftsum_code, book_a, "2", 6, 10);
+}
+
 /* n 63 over GF(64): g is x + 1, so that place j of a code word is the sum of places j and j - 1 of the message, and the one symbol of a remainder is
  * the sum of all symbols of the word. */
-static void test_largest(void)
+static void make_largest(uint8_t *book)
 {
-    const uint8_t no_error = 0, error = 42;
-    uint8_t book[BOOK] = {1, 6, 6, 2, 1, 1};
-    uint8_t message[LARGEST - 1], word[LARGEST], received[LARGEST], answer[LARGEST];
-    size_t j;
+    static const uint8_t start[] = {1, 6, 6, 2, 1, 1};
+    memset(book, 0, BOOK);
+    memcpy(book, start, sizeof start);
     book[67] = 3;
     book[AT_I] = 63;
     book[AT_D] = 63;
     book[AT_DUAL_WORD - 1] = 4;
     memset(book + AT_DUAL_WORD, 1, LARGEST);
+}
+
+/* The word of its message, with zeros for the symbols from len on. */
+static void put_word(uint8_t *word, uint8_t *message, size_t len)
+{
+    size_t j;
     for (j = 0; j < LARGEST - 1; j++)
-        message[j] = (uint8_t)(63 - j);
+        message[j] = (uint8_t)(j < len ? 63 - j : 0);
     for (j = 0; j < LARGEST; j++)
         word[j] = (uint8_t)((j < LARGEST - 1 ? message[j] : 0) ^ (j > 0 ? message[j - 1] : 0));
+}
+
+static void test_every_length(void)
+{
+    static const uint8_t zeros[LARGEST + 1] = {0};
+    uint8_t book[BOOK], message[LARGEST - 1], word[LARGEST];
+    char name[64];
+    size_t len;
+    make_largest(book);
+    call("n 63, no symbols", shiftsum_code, book, BOOK, zeros, 0, NULL, LARGEST, 9);
+    for (len = 1; len <= LARGEST - 1; len++) {
+        snprintf(name, sizeof name, "n 63, %lu symbols", (unsigned long)len);
+        put_word(word, message, len);
+        call(name, shiftsum_code, book, BOOK, message, len, word, LARGEST, 0);
+        call(name, shiftsum_code, book, BOOK, message, LARGEST - 1, word, LARGEST, 0);
+        call(name, shiftsum_read, book, BOOK, word, LARGEST, message, LARGEST - 1, 0);
+    }
+    call("n 63, 63 symbols", shiftsum_code, book, BOOK, zeros, LARGEST, NULL, LARGEST, 9);
+    call("n 63, 64 symbols", shiftsum_code, book, BOOK, zeros, LARGEST + 1, NULL, LARGEST, 9);
+}
+
+static void test_largest(void)
+{
+    const uint8_t no_error = 0, error = 42;
+    uint8_t book[BOOK], message[LARGEST - 1], word[LARGEST], received[LARGEST], answer[LARGEST];
+    size_t j;
+    make_largest(book);
+    put_word(word, message, LARGEST - 1);
     expect_number("n 63", "the result of check", shiftsum_check(book, BOOK), 0x100);
     call("n 63, code", shiftsum_code, book, BOOK, message, LARGEST - 1, word, LARGEST, 0);
     call("n 63, read", shiftsum_read, book, BOOK, word, LARGEST, message, LARGEST - 1, 0);
@@ -453,10 +532,13 @@ int main(void)
     test_macros();
     test_check();
     test_cases();
+    test_short_messages();
     test_remainder();
     test_refused_codebooks();
     test_alike_dual_words();
     test_refused_calls();
+    test_refused_lengths();
+    test_every_length();
     test_largest();
     test_longest_remainder();
     printf("%lu passed, %lu failed\n", passed, failed);
