@@ -2,8 +2,8 @@
  * The functions of the library on any bytes, against the second implementation: a target for libFuzzer.
  *
  * An input makes one codebook, a message, a received word and the sizes of the outputs, and all functions are called with them; decode again with a
- * few errors more where the word was not refused. So that most calls get past the codebook's refusals, an input mostly names an accepted
- * codebook of a shelf and a few edits; it can give all bytes as well.
+ * few errors more where the word was not refused, and code, where the input asks for it, with a message of every length from 0 to k + 1. So that most
+ * calls get past the codebook's refusals, an input mostly names an accepted codebook of a shelf and a few edits; it can give all bytes as well.
  *
  * The archive is not made for the sanitizer, which therefore sees nothing of what happens in it. So every buffer lies in pages of its own between
  * pages that may not be touched, at one end of them, and the rest of the pages is filled: reading or writing beyond that end stops the program, and
@@ -272,8 +272,8 @@ static void edit(struct bytes *book, struct input *input)
     }
 }
 
-/* The first byte of an input that has the codebook's bytes. Any other: one of the shelf. */
-enum { WHOLE = 255 };
+/* The first byte of an input that has the codebook's bytes. Any other: one of the shelf. And the byte that asks for every length of a message. */
+enum { WHOLE = 255, EVERY = 1 };
 
 static void make_book(struct bytes *book, struct input *input)
 {
@@ -308,6 +308,13 @@ static size_t size(size_t exact, struct input *input)
     default:
         return exact;
     }
+}
+
+/* How many symbols are coded: mostly k, often any number to k + 1, now and then more. */
+static size_t message_size(size_t k, struct input *input)
+{
+    const size_t choice = next(input);
+    return choice < 176 ? k : choice < 192 ? k + 2 + (choice - 176) * 8 : (choice - 192) % (k + 2);
 }
 
 /* Makes the bytes as many as the size says. */
@@ -474,6 +481,43 @@ __attribute__((no_sanitize("address"))) static uint32_t faulty_remainder(const c
     return result;
 }
 
+/* The faults that code could have, made of a right result; the codebook is accepted. */
+__attribute__((no_sanitize("address"))) static uint32_t faulty_code(const char *fault, uint32_t result)
+{
+    volatile uint8_t *first = book_area.buffer, *input = input_area.buffer, *output = output_area.buffer;
+    const size_t len = input_area.len;
+    static struct bytes book;
+    struct shape shape;
+    uint8_t moved[LARGEST] = {0}, word[LARGEST];
+    size_t place;
+    memcpy(book.at, book_area.buffer, book_area.len);
+    book.len = book_area.len;
+    shape = shape_of(&book);
+    if ((strcmp(fault, "none") == 0 && len == 0) || (strcmp(fault, "longer") == 0 && len == shape.k + 1))
+        return 0;
+    if ((strcmp(fault, "full") == 0 && len == shape.k) || (strcmp(fault, "short") == 0 && len < shape.k))
+        return 9;
+    if (result != 0)
+        return result;
+    if (strcmp(fault, "low") == 0) {
+        for (place = 0; place < len; place++)
+            moved[shape.k - len + place] = input[place];
+        reference_code(book.at, book.len, moved, shape.k, word, shape.n);
+        for (place = 0; place < shape.n; place++)
+            output[place] = word[place];
+    }
+    if (strcmp(fault, "unwritten") == 0)
+        for (place = shape.n - shape.k + len; place < shape.n; place++)
+            output[place] = 0xa5;
+    if (strcmp(fault, "behind") == 0 && input[shape.k - 1] == 0)
+        return result;
+    if (strcmp(fault, "word") == 0)
+        output[0] ^= 1;
+    if (strcmp(fault, "book") == 0)
+        first[0] = 1;
+    return result;
+}
+
 /* The faults that condition 8 could have, made of a right result. */
 static uint32_t faulty_copies(const char *fault, uint32_t result)
 {
@@ -511,6 +555,8 @@ __attribute__((no_sanitize("address"))) static uint32_t faulty(int which, uint32
         return result;
     if (which == REMAINDER)
         return faulty_remainder(fault, result);
+    if (which == CODE)
+        return result == 0 || result > 8 ? faulty_code(fault, result) : result;
     if (which == CHECK)
         result = faulty_copies(fault, result);
     if (strcmp(fault, "refusal") == 0 && which == CHECK && result == 7)
@@ -528,12 +574,8 @@ __attribute__((no_sanitize("address"))) static uint32_t faulty(int which, uint32
     /* A fault that few words show. */
     if (strcmp(fault, "seldom") == 0 && kind == SHIFTSUM_MENDED && SHIFTSUM_ROUNDS(result) == 2 && book[AT_P] == 2)
         output[output_area.len - 1] ^= 1;
-    if (strcmp(fault, "word") == 0 && which == CODE && result == 0)
-        output[0] ^= 1;
     if (strcmp(fault, "refused") == 0 && which == READ && result == 12)
         output[0] = output[0];
-    if (strcmp(fault, "book") == 0 && which == CODE && result == 0)
-        book[0] = 1;
     if (strcmp(fault, "input") == 0 && kind == SHIFTSUM_CLEAN)
         input[0] = input[0];
     if (strcmp(fault, "beyond") == 0 && which == READ && result == 0)
@@ -548,9 +590,13 @@ __attribute__((no_sanitize("address"))) static uint32_t faulty(int which, uint32
 #define faulty(which, result) (result)
 #endif
 
-/* How many calls of each function had each result, for decode the kinds; those of decode that took two rounds or more; and those of check with
- * result 8 by the copy that the codebook had. */
+/* How many calls of each function had each result, for decode the kinds; those of decode that took two rounds or more; those of check with
+ * result 8 by the copy that the codebook had; and those of code with an accepted codebook by the length of the message. */
 static unsigned long calls[FUNCTIONS], accepted[FUNCTIONS], refused[FUNCTIONS][256], kinds[128], later[128], copies[UNLIKE + 1], left_out;
+
+/* Where k is 1, one symbol is not short. */
+enum { LENGTH_0, K_IS_1, ONE_SYMBOL, SHORT, FULL, K_AND_1, ABOVE, LENGTHS };
+static unsigned long lengths[LENGTHS][256], every_length;
 
 /* What libFuzzer takes as new ground beside the branches of this file: results not seen before, by the codebook's s and p. */
 enum { SEEN = 1 << 15 };
@@ -624,6 +670,16 @@ static uint32_t compare(int which, const struct bytes *book, const struct bytes 
     return result;
 }
 
+/* The sort of a message's length. */
+static int length_of(size_t len, size_t k)
+{
+    if (len == 0 || len > k)
+        return len == 0 ? LENGTH_0 : len == k + 1 ? K_AND_1 : ABOVE;
+    if (len == k)
+        return k == 1 ? K_IS_1 : FULL;
+    return len == 1 ? ONE_SYMBOL : SHORT;
+}
+
 /* What an output holds before the call. */
 static void hold(struct bytes *held, size_t len, uint8_t first)
 {
@@ -633,21 +689,81 @@ static void hold(struct bytes *held, size_t len, uint8_t first)
         held->at[place] = (uint8_t)(first + 7 * place);
 }
 
+/* Codes, and reads where a word was coded: the message comes back, and then zeros. Whether the codebook is accepted. */
+static int code_and_read(const struct bytes *book, const struct bytes *message, const struct bytes *held, unsigned places)
+{
+    static struct bytes word, before;
+    const struct shape shape = shape_of(book);
+    const uint32_t result = compare(CODE, book, message, held, places);
+    size_t place;
+    if (result != 0 && result < 9)
+        return 0;
+    lengths[length_of(message->len, shape.k)][result]++;
+    if (result != 0)
+        return 1;
+    word.len = shape.n;
+    memcpy(word.at, output_area.buffer, shape.n);
+    hold(&before, shape.k, (uint8_t)places);
+    compare(READ, book, &word, &before, places);
+    for (place = 0; place < shape.k; place++)
+        if (output_area.buffer[place] != (place < message->len ? message->at[place] : 0))
+            differs(READ, "what was coded", 0, 0, book, message, &before);
+    return 1;
+}
+
+/* A message of every length from 0 to k + 1, and again with a word of another size or a bad symbol. The places change, so that a short message often
+ * ends where its pages do. */
+static void code_every_length(const struct bytes *book, uint8_t first, unsigned places, struct input *input)
+{
+    static struct bytes message, held;
+    const struct shape shape = shape_of(book);
+    size_t len;
+    for (len = 0; len <= shape.k + 1; len++, places++) {
+        make_symbols(&message, len, shape.q, 0, input);
+        hold(&held, shape.n, first);
+        if (!code_and_read(book, &message, &held, places))
+            return;
+        if (draw(input) % 2 == 0)
+            held.len = draw(input) % 2 == 0 ? shape.n - 1 : 0;
+        else if (len > 0)
+            message.at[draw(input) % len] |= (uint8_t)shape.q;
+        code_and_read(book, &message, &held, places);
+    }
+    every_length++;
+}
+
+/* Decodes, and again with one error more each time, since the words between few errors and many are the ones that take several rounds. */
+static void decode_some(const struct bytes *book, struct bytes *word, const struct bytes *held, unsigned places, struct input *input)
+{
+    const struct shape shape = shape_of(book);
+    unsigned more = 4;
+    if (products(book, shape) > MOST_PRODUCTS) {
+        left_out++;
+        return;
+    }
+    while (SHIFTSUM_REFUSAL(compare(DECODE, book, word, held, places)) == 0 && more > 0) {
+        const uint8_t place = draw(input);
+        word->at[place % shape.n] ^= (uint8_t)(1 + draw(input) % (shape.q - 1));
+        more--;
+    }
+}
+
 int LLVMFuzzerTestOneInput(const uint8_t *data, size_t len)
 {
     static struct bytes book, message, word, held;
     struct input input = {data, len, 0};
     struct shape shape;
-    unsigned places, more = 4;
+    unsigned places, every;
     uint8_t first;
     make_book(&book, &input);
     shape = shape_of(&book);
     places = next(&input);
     first = next(&input);
     /* Sizes first, so that what an input has left goes to the symbols. */
-    const size_t message_len = size(shape.k, &input), word_len = size(shape.n, &input);
+    const size_t message_len = message_size(shape.k, &input), word_len = size(shape.n, &input);
     const size_t coded_len = size(shape.n, &input), read_len = size(shape.k, &input), answer_len = size(shape.n, &input);
     const size_t rest_len = size(shape.n - shape.k, &input);
+    every = next(&input);
     input.drawn = (uint32_t)next_two(&input);
     make_symbols(&message, shape.k, shape.q, next(&input), &input);
     make_word(&word, &book, shape, &message, &input);
@@ -657,22 +773,33 @@ int LLVMFuzzerTestOneInput(const uint8_t *data, size_t len)
     hold(&held, 0, 0);
     compare(CHECK, &book, &held, &held, places);
     hold(&held, coded_len, first);
-    compare(CODE, &book, &message, &held, places);
+    code_and_read(&book, &message, &held, places);
+    if (every == EVERY)
+        code_every_length(&book, first, places, &input);
     hold(&held, read_len, first);
     compare(READ, &book, &word, &held, places >> 3);
     hold(&held, rest_len, first);
     compare(REMAINDER, &book, &word, &held, places >> 4);
     hold(&held, answer_len, first);
-    if (products(&book, shape) > MOST_PRODUCTS)
-        left_out++;
-    else
-        while (SHIFTSUM_REFUSAL(compare(DECODE, &book, &word, &held, places >> 5)) == 0 && more > 0) {
-            /* One error more each time, since the words between few errors and many are the ones that take several rounds. */
-            const uint8_t place = draw(&input);
-            word.at[place % shape.n] ^= (uint8_t)(1 + draw(&input) % (shape.q - 1));
-            more--;
-        }
+    decode_some(&book, &word, &held, places >> 5, &input);
     return 0;
+}
+
+/* How often a message of each sort of length had each result that it can have. */
+static void print_lengths(void)
+{
+    static const char *const names[LENGTHS] = {"length-0", "k-is-1", "one-symbol", "short", "full", "k+1", "above-k+1"};
+    static const unsigned numbers[] = {0, 10, 11};
+    size_t i;
+    int sort;
+    printf("lengths   every-length %lu", every_length);
+    for (sort = 0; sort < LENGTHS; sort++)
+        if (sort == LENGTH_0 || sort == K_AND_1 || sort == ABOVE)
+            printf(" %s:9 %lu", names[sort], lengths[sort][9]);
+        else
+            for (i = 0; i < sizeof numbers / sizeof numbers[0]; i++)
+                printf(" %s:%u %lu", names[sort], numbers[i], lengths[sort][numbers[i]]);
+    printf("\n");
 }
 
 /* The counts in a table, which the script reads; a dash where a function has no such result. */
@@ -705,17 +832,18 @@ static void print_counts(void)
     }
     printf("%-9s %9lu %9s %7s %7lu %7lu %7lu\n", "later", later['M'] + later['S'] + later['X'], "-", "-", later['M'], later['S'], later['X']);
     printf("copies    equal %lu turned %lu turned-and-scaled %lu\n", copies[EQUAL], copies[TURNED], copies[TURNED_AND_SCALED]);
+    print_lengths();
     printf("calls: %lu; decodes left out as too slow: %lu\n", all, left_out);
     fflush(stdout);
 }
 
-/* An input to start from: no edits or one, the exact sizes, and a code word with none to four errors. */
+/* An input to start from: no edits or one, the exact sizes, every length of a message, and a code word with none to four errors. */
 static void write_seed(const char *folder, size_t number, const uint8_t *start, size_t start_len, const struct bytes *book, int copied_too)
 {
     const uint8_t drawn = (uint8_t)(number / SEEDS_EACH), none[] = {0};
     /* Edit 9: the copy of a dual word that is added, turned by what is drawn and multiplied so that 1 is at place 0. */
     const uint8_t added[] = {1, 9, drawn, (uint8_t)(1 + drawn), 4};
-    const uint8_t rest[] = {drawn, drawn, 0, 0, 0, 0, 0, 0, drawn, 1, 0, (uint8_t)(drawn % 5 * 8)};
+    const uint8_t rest[] = {drawn, drawn, 0, 0, 0, 0, 0, 0, EVERY, drawn, 1, 0, (uint8_t)(drawn % 5 * 8)};
     char name[4096];
     FILE *file;
     snprintf(name, sizeof name, "%s/%zu", folder, number);
