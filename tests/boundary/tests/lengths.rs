@@ -11,12 +11,12 @@ use boundary::{code, read, refusal, Operation};
 use reference::generate::{self, Random, SHAPES};
 use reference::packed;
 
-/// How many codebooks of an s and p are drawn; those of s 6 take long.
+/// How many codebooks of an s and p are drawn; those of many places take
+/// long, and have the more lengths.
 fn books(s: u8) -> u32 {
     match s {
-        6 => 24,
-        5 => 30,
-        _ => 60,
+        5 | 6 => 100,
+        _ => 200,
     }
 }
 
@@ -180,7 +180,7 @@ fn every_length_is_the_references() {
             .every_length();
         }
     }
-    tally.finish(20);
+    tally.finish(100);
 }
 
 /// The code word of a message, by the library.
@@ -228,7 +228,7 @@ fn symbols_behind_a_message_are_not_coded() {
             }
         }
     }
-    tally.finish(20);
+    tally.finish(100);
 }
 
 /// Every message of so many symbols.
