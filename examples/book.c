@@ -40,7 +40,7 @@ const char *refusal_sentence(unsigned number)
         "the codebook's I is not 1 to 63, or its D not 1 to n",
         "a dual word has not symbol 1 at place 0, its product with the generator is not zero, or its weight differs from the others'",
         "two dual words of the codebook are alike: one is a nonzero symbol times a turn of the other",
-        "the input is not k symbols for coding, or not n symbols for reading, dividing and decoding",
+        "the input is not 1 to k symbols for coding, or not n symbols for reading, dividing and decoding",
         "the output's size is not exact",
         "the input has a symbol of q or more",
         "the word to be read is not a code word",

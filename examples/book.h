@@ -8,7 +8,7 @@ struct book {
     uint8_t bytes[SHIFTSUM_BOOK_MAX + 1]; /* one more, so that a file that is too long is seen to be */
     size_t len;
     size_t n;   /* symbols of a word */
-    size_t k;   /* symbols of a message */
+    size_t k;   /* symbols of a message; fewer may be coded, and all are read */
     unsigned p; /* binary digits of a symbol */
 };
 

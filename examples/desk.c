@@ -6,6 +6,9 @@
  * The lane, the radio and the server are played by this file: the lane codes its frames, the radio damages the words in a way that every run repeats,
  * and the server has four of the ten frames, one of them wrong. What a desk does with a received word is in merge.c.
  *
+ * The lane hands over only the symbols that a frame fills, since an open frame fills few. Its word has n symbols all the same, and the desk reads all
+ * k symbols from it, the zeros that were not handed over as well.
+ *
  * Exit status: 0 the game was merged; 1 something went wrong that should not; 2 the file cannot be read; 3 the codebook was refused,
  * or has no room for a frame.
  */
@@ -55,14 +58,20 @@ static void print_frame(const struct book *book, const struct frame *frame)
     printf("%*s", 8 - width, "");
 }
 
-/* The lane codes a frame, and the radio delivers what it makes of the word. */
-static int transmit(const struct book *book, const struct sending *sending, uint32_t *state, struct delivery *delivery)
+/* The lane codes a frame. How many symbols it handed over, or 0 where they were refused. */
+static size_t lane_code(const struct book *book, unsigned number, uint8_t *word)
 {
     uint8_t message[SHIFTSUM_WORD_MAX];
+    size_t filled = frame_pack(book, &lane_frames[number], message);
+    return shiftsum_code(book->bytes, book->len, message, filled, word, book->n) == 0 ? filled : 0;
+}
+
+/* The lane sends a frame, and the radio delivers what it makes of the word. */
+static int transmit(const struct book *book, const struct sending *sending, uint32_t *state, struct delivery *delivery)
+{
     size_t errors = sending->one_in == 0 ? 0 : (book->n + sending->one_in - 1) / sending->one_in;
-    frame_pack(book, &lane_frames[sending->number], message);
     delivery->len = book->n;
-    if (shiftsum_code(book->bytes, book->len, message, book->k, delivery->bytes, book->n) != 0)
+    if (lane_code(book, sending->number, delivery->bytes) == 0)
         return 0;
     noise_damage(state, delivery->bytes, book->n, 1u << book->p, errors);
     if (sending->fault == BAD_SYMBOL)
@@ -120,14 +129,13 @@ static void print_word(const struct book *book, const struct sending *sending, c
 {
     static const char *const faults[] = {"", ", a bad symbol", ", cut"};
     char text[TEXT];
-    uint8_t sent[SHIFTSUM_WORD_MAX], message[SHIFTSUM_WORD_MAX];
-    size_t j, hit = 0;
-    frame_pack(book, &lane_frames[sending->number], message);
-    if (shiftsum_code(book->bytes, book->len, message, book->k, sent, book->n) == 0)
-        for (j = 0; j < held->len; j++)
-            hit += sent[j] != held->raw[j];
+    uint8_t sent[SHIFTSUM_WORD_MAX];
+    size_t filled = lane_code(book, sending->number, sent), j, hit = 0;
+    for (j = 0; j < held->len && filled > 0; j++)
+        hit += sent[j] != held->raw[j];
     printf("%5u  ", sending->number + 1);
     print_frame(book, &lane_frames[sending->number]);
+    printf("%7zu  ", filled);
     snprintf(text, sizeof text, "%zu hit%s", hit, faults[sending->fault]);
     printf("%-20s", text);
     print_answer(held->result);
@@ -208,7 +216,7 @@ static int play(const struct book *book)
     merge_begin(&game);
     for (i = 0; i < SERVER_FRAMES; i++)
         merge_server(&game, server_frames[i].number, &server_frames[i].frame);
-    printf("The lane's words\nframe  sent    radio               answer                         read    verdict\n");
+    printf("The lane's words\nframe  sent    symbols  radio               answer                         read    verdict\n");
     for (i = 0; i < SENDINGS; i++) {
         const struct held *held;
         if (!transmit(book, &sendings[i], &state, &deliveries[i]))

@@ -8,15 +8,20 @@ unsigned frame_balls(const struct book *book)
     return balls < BALLS_MAX ? (unsigned)balls : (unsigned)BALLS_MAX;
 }
 
-void frame_pack(const struct book *book, const struct frame *frame, uint8_t *message)
+size_t frame_pack(const struct book *book, const struct frame *frame, uint8_t *message)
 {
     unsigned bits = frame_balls(book) * BITS_OF_A_BALL;
+    size_t filled = book->k;
     unsigned i;
     memset(message, 0, book->k);
     for (i = 0; i < bits; i++) {
         unsigned bit = frame->pins[i / BITS_OF_A_BALL] >> (i % BITS_OF_A_BALL) & 1u;
         message[i / book->p] |= (uint8_t)(bit << (i % book->p));
     }
+    /* One symbol is left of a frame without a pin: a message of none is refused. */
+    while (filled > 1 && message[filled - 1] == 0)
+        filled--;
+    return filled;
 }
 
 int frame_unpack(const struct book *book, const uint8_t *message, struct frame *frame)

@@ -39,6 +39,7 @@ static enum verdict read_frame(const struct book *book, struct held *held)
     kind = SHIFTSUM_KIND(held->result);
     if (kind != SHIFTSUM_CLEAN && kind != SHIFTSUM_MENDED)
         return UNREACHED;
+    /* All k symbols, however many the lane handed over: a short frame has its zeros again. */
     result = shiftsum_read(book->bytes, book->len, answer, book->n, message, book->k);
     if (result != 0) {
         held->result = result; /* Not met: the answer of a Clean or Mended word is a code word. */

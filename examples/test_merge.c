@@ -3,14 +3,15 @@
  *
  *     test_merge BOOKS
  *
- * by book A and line15 of the folder BOOKS. Every word must be held as it came, and the frame that stood must stand.
+ * by book A, line15 and line63 of the folder BOOKS. Every word must be held as it came, the frame that stood must stand, and a frame that was coded
+ * short must come back with its zeros.
  */
 #include "merge.h"
 
 #include <stdio.h>
 #include <string.h>
 
-static struct book book_a, line15;
+static struct book book_a, line15, line63;
 static struct game game;
 static unsigned long passed, failed;
 
@@ -97,6 +98,42 @@ static void test_room(void)
     expect("room again, and the game stands", merge_lane(&game, &book_a, 1, one_pin, 7) != NULL && game.source[0] == LANE);
 }
 
+/* A frame that fills so many symbols is coded from these alone, and merged. */
+static void sends_short(const char *name, const struct book *book, struct frame frame, size_t filled)
+{
+    uint8_t message[SHIFTSUM_WORD_MAX], read[SHIFTSUM_WORD_MAX], word[SHIFTSUM_WORD_MAX];
+    const struct held *held;
+    size_t j;
+    expect(name, frame_pack(book, &frame, message) == filled);
+    /* What comes after them is not looked at: as a symbol it would be refused. */
+    memset(message + filled, 0xff, sizeof message - filled);
+    expect(name, shiftsum_code(book->bytes, book->len, message, filled, word, book->n) == 0);
+    expect(name, shiftsum_read(book->bytes, book->len, word, book->n, read, book->k) == 0);
+    for (j = 0; j < book->k; j++)
+        expect(name, read[j] == (j < filled ? message[j] : 0));
+    begin(0, 0);
+    held = merge_lane(&game, book, 0, word, book->n);
+    expect(name, held != NULL && held->verdict == TAKEN && memcmp(&game.frames[0], &frame, sizeof frame) == 0);
+}
+
+/* Of line63's 13 symbols a ball fills up to two, of line15's 7 the first ball up to four, of book A's 4 all. */
+static void test_short(void)
+{
+    sends_short("an open frame", &line63, (struct frame){{8, 1, 0}}, 3);
+    sends_short("an open frame of one ball", &line63, (struct frame){{1, 0, 0}}, 1);
+    sends_short("no pin at first", &line63, (struct frame){{0, 8, 0}}, 4);
+    sends_short("no pin at all", &line63, (struct frame){{0, 0, 0}}, 1);
+    sends_short("a strike", &line63, (struct frame){{10, 0, 0}}, 2);
+    sends_short("a spare", &line63, (struct frame){{7, 3, 0}}, 3);
+    sends_short("the tenth frame", &line63, (struct frame){{10, 9, 1}}, 5);
+    sends_short("three strikes", &line63, (struct frame){{10, 10, 10}}, 6);
+    sends_short("line15, nine pins", &line15, (struct frame){{9, 0, 0}}, 4);
+    sends_short("line15, one pin", &line15, (struct frame){{1, 0, 0}}, 1);
+    sends_short("line15, no pin", &line15, (struct frame){{0, 0, 0}}, 1);
+    sends_short("book A, three pins", &book_a, (struct frame){{3, 0, 0}}, 2);
+    sends_short("book A, eight pins, no short frame", &book_a, (struct frame){{8, 0, 0}}, 4);
+}
+
 static int load(struct book *book, const char *folder, const char *name)
 {
     char path[4096];
@@ -109,11 +146,12 @@ static int load(struct book *book, const char *folder, const char *name)
 
 int main(int argc, char **argv)
 {
-    if (argc != 2 || !load(&book_a, argv[1], "a") || !load(&line15, argv[1], "line15"))
+    if (argc != 2 || !load(&book_a, argv[1], "a") || !load(&line15, argv[1], "line15") || !load(&line63, argv[1], "line63"))
         return 2;
     test_verdicts();
     test_server();
     test_room();
+    test_short();
     printf("%lu passed, %lu failed\n", passed, failed);
     return failed == 0 ? 0 : 1;
 }
