@@ -191,6 +191,7 @@ int main(void)
     test((struct call){"check", check, large, sizeof large, 0, 0, 0, 0, 0}, thread_alone);
     test((struct call){"check, refused by 8", check, late, sizeof late, 0, 0, 8, 0, 0}, thread_alone);
     test((struct call){"code", shiftsum_code, large, sizeof large, K, N, 0, 0, 0}, thread_alone);
+    test((struct call){"code, one symbol", shiftsum_code, large, sizeof large, 1, N, 0, 0, 0}, thread_alone);
     memset(input, 0, sizeof input);
     test((struct call){"read", shiftsum_read, large, sizeof large, N, K, 0, 0, 0}, thread_alone);
     input[0] = 1;
