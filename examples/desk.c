@@ -252,7 +252,7 @@ int main(int argc, char **argv)
         printf("codebook accepted, but its messages have no room for a frame\n");
         return 3;
     }
-    printf("codebook accepted: words of %zu symbols below %u, messages of %zu, %u dual word%s\n\n", book.n, 1u << book.p, book.k,
+    printf("codebook accepted: words of %zu symbols below %u, messages of up to %zu, %u dual word%s\n\n", book.n, 1u << book.p, book.k,
            SHIFTSUM_DUAL_WORDS(result), SHIFTSUM_DUAL_WORDS(result) == 1 ? "" : "s");
     if (!play(&book)) {
         printf("failed: a word could not be coded or held\n");
