@@ -272,8 +272,8 @@ static void edit(struct bytes *book, struct input *input)
     }
 }
 
-/* The first byte of an input that has the codebook's bytes. Any other: one of the shelf. And the byte that asks for every length of a message. */
-enum { WHOLE = 255, EVERY = 1 };
+/* The first byte of an input that has the codebook's bytes. Any other: one of the shelf. */
+enum { WHOLE = 255 };
 
 static void make_book(struct bytes *book, struct input *input)
 {
@@ -291,6 +291,9 @@ static void make_book(struct bytes *book, struct input *input)
 }
 
 /* --- Message, word and sizes of an input. --- */
+
+/* The byte that asks for a message of every length. */
+enum { EVERY = 1 };
 
 /* Mostly the exact size. */
 static size_t size(size_t exact, struct input *input)
