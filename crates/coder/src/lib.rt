@@ -28,7 +28,7 @@ pub fn code(book: &[u8], message: &[u8], word: &mut [u8]) -> Done
     }
 }
 
-// The same once the book is open: the product with the generator is read off the generator's table. The symbols that a short message lacks would add nothing.
+// The same once the book is open: the product with the generator is read off the generator's table. What a short message lacks would add nothing to it.
 fn code_message(c: Params, t: &[u8], message: &[u8], word: &mut [u8]) -> Done
     requires { ⌜ SomeBook c (now t) ⌝ }
     ensures { λ r. ⌜ ((bytes : List ℕ) → OpenBook bytes c (now (t .entry))

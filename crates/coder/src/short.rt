@@ -1,4 +1,4 @@
-// Two calls of code: a lane that sends a short message and one that writes its zeros out send the same word.
+// Two calls of code: who gives a short message and who writes its zeros out get the same word.
 ghost use lib.ListN.{length};
 ghost use Rattle.spec_operations.specs.Wrote.{Wrote};
 ghost use Rattle.spec_operations.specs.Coding.{codeRefusal, coded};
