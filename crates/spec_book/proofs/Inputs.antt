@@ -4,6 +4,8 @@ use mathlib.Core.Path.{_≡_, _∙_, subst}
 use mathlib.Core.Bool.{Bool, _&&_}
 use mathlib.Core.List.{List}
 use Prim.Native.Nat.{ℕ, _≤_, _<_}
+use native.Mathlib.Nat.{le-of-eq}
+use native.Mathlib.Omega.{arith}
 use lib.Dec.{T, eqb, leb, ltb, leb→le, le→leb, lt→ltb, ltb→lt}
 use lib.ListN.{length, getD}
 use Rattle.spec_range.proofs.Tests.{eq→eqb, cond-true, and-left, and-right, and-both}
@@ -24,9 +26,10 @@ module _ (k size : ℕ) where
   unfolding messageFits
   fits-high t = leb→le size k (and-right (leb 1 size) (leb size k) t)
 
-  pub size-fits : 1 ≤ size → size ≤ k → T (messageFits k size)
+  -- a full message fits: k is 1 or more
+  pub full-fits : 1 ≤ k → size ≡ k → T (messageFits k size)
   unfolding messageFits
-  size-fits low high = and-both (leb 1 size) (leb size k) (le→leb 1 size low) (le→leb size k high)
+  full-fits low e = and-both (leb 1 size) (leb size k) (le→leb 1 size (omega arith)) (le→leb size k (le-of-eq e))
 
 -- ---- an input with its output
 

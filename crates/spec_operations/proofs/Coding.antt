@@ -4,7 +4,6 @@ use mathlib.Core.Path.{_≡_, sym, ap, ap₂, _∙_, subst}
 use mathlib.Core.Bool.{Bool, true, false}
 use mathlib.Core.List.{List}
 use Prim.Native.Nat.{ℕ, zero, suc, pred, _%_, _≤_, _<_}
-use native.Mathlib.Nat.{le-refl}
 use native.Mathlib.Decide.{decLt}
 use native.Mathlib.Omega.{arith}
 use lib.Dec.{T, eqb, eqb→eq}
@@ -27,7 +26,7 @@ use Rattle.spec_book.specs.Layout.{width, fieldOf, bookOf}
 use Rattle.spec_book.specs.Conditions.{unless, refusal, messageFits, codeWordRefusal}
 use Rattle.spec_book.proofs.Sound.{passed}
 use Rattle.spec_book.proofs.Known.{book-laws, book-accepted}
-use Rattle.spec_book.proofs.Inputs.{fits-high, size-fits, AcceptedInput, accepted-input, input-accepted}
+use Rattle.spec_book.proofs.Inputs.{fits-high, full-fits, AcceptedInput, accepted-input, input-accepted}
 use Rattle.spec_coding.specs.Coder.{writtenOut, encode, message}
 use Rattle.spec_coding.proofs.Coder.{encode-code, message-encode, encode-message}
 use Rattle.spec_operations.specs.Wrote.{Wrote}
@@ -174,9 +173,7 @@ module _ (bytes : List ℕ) where
 
         -- all k symbols, of which there is one at least
         whole : T (messageFits (messageLength B) (length (table (messageLength B) (coefficients Q))))
-        whole =
-            subst (λ (m : ℕ). T (messageFits (messageLength B) m)) (sym (table-length (messageLength B) (coefficients Q)))
-            (size-fits (messageLength B) (messageLength B) (omega (arith, book-accepted bytes sound .generates .degree-lt)) (le-refl (messageLength B)))
+        whole = full-fits (messageLength B) _ (omega (arith, book-accepted bytes sound .generates .degree-lt)) (table-length (messageLength B) (coefficients Q))
 
     pub message-coded : coded bytes (messageOf bytes w) ≡ w
     message-coded =

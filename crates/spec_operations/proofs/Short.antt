@@ -1,11 +1,10 @@
 -- A message and the same written out: code has one number and one word for both; so of two calls, from what each answers and writes.
 -- Assumes nothing.
-use mathlib.Core.Path.{_≡_, refl, sym, ap, ap₂, _∙_, subst}
+use mathlib.Core.Path.{_≡_, refl, sym, ap, ap₂, _∙_}
 use mathlib.Core.Bool.{Bool, true, _&&_}
 use mathlib.Core.List.{List, []}
 use Prim.Native.Nat.{ℕ, zero, suc, _≤_}
-use native.Mathlib.Nat.{le-refl}
-use native.Mathlib.Omega.{arith}
+use native.Mathlib.Nat.{le-trans}
 use lib.Dec.{T, eqb, ltb, lt→ltb}
 use lib.ListN.{length, List·getD-eq-default}
 use Rattle.spec_range.specs.Fold.{all}
@@ -19,7 +18,7 @@ use Rattle.spec_book.specs.Book.{Book, messageLength}
 use Rattle.spec_book.specs.Layout.{width, fieldOf, bookOf}
 use Rattle.spec_book.specs.Conditions.{unless, refusal, messageFits, inputOk, inputRefusal}
 use Rattle.spec_book.proofs.Known.{book-laws}
-use Rattle.spec_book.proofs.Inputs.{fits-low, fits-high, size-fits}
+use Rattle.spec_book.proofs.Inputs.{fits-low, fits-high, full-fits}
 use Rattle.spec_coding.specs.Coder.{writtenOut}
 use Rattle.spec_coding.proofs.Coder.{written-out-at, written-out-length, encode-written-out}
 use Rattle.spec_operations.specs.Wrote.{Wrote}
@@ -58,8 +57,7 @@ module _ (bytes f : List ℕ) where
     same-fit : messageFits (messageLength B) (length f) ≡ messageFits (messageLength B) (length whole)
     same-fit =
         test-true _ fits
-        ∙ sym (test-true (messageFits (messageLength B) (length whole)) (subst (λ (m : ℕ). T (messageFits (messageLength B) m)) (sym (written-out-length B f short))
-        (size-fits (messageLength B) (messageLength B) (omega (arith, short, fits-low (messageLength B) (length f) fits)) (le-refl (messageLength B)))))
+        ∙ sym (test-true _ (full-fits (messageLength B) (length whole) (le-trans (fits-low (messageLength B) (length f) fits) short) (written-out-length B f short)))
 
     same-number : (room : ℕ) → codeRefusal bytes f room ≡ codeRefusal bytes whole room
     unfolding codeRefusal codeInputRefusal inputRefusal
