@@ -32,9 +32,9 @@ const char *refusal_sentence(unsigned number)
 {
     static const char *const sentences[] = {
         "not refused",
-        "the codebook's length is not 70 + 64 L bytes, L from 1 to 32",
-        "the codebook's records are not of the kinds 1, 2, 3, 4, 4, .. in this order",
-        "the codebook's s is not 2 to 6, or its p does not divide s",
+        "the codebook's length is none of its form: 70 + 64 L bytes, or, where byte 3 is 5, 262 + 256 L; L from 1 to 32",
+        "the codebook's records are not of the kinds 1, 2, 3, 4, 4, .. or 1, 5, 3, 6, 6, .. in this order",
+        "the codebook's s is not 2 to 6, or its p does not divide s; or, in the long form, they are not 7 and 1, or 8 and 1, 2 or 4",
         "the codebook has a symbol of q or more, or a nonzero place from n on",
         "the codebook's generator has not leading coefficient 1, has degree 0, or does not divide x^n - 1",
         "the codebook's I is not 1 to 63, or its D not 1 to n",

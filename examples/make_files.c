@@ -5,19 +5,20 @@
  *
  * writes BOOKS/NAME.book and STREAM/NAME.in. `examples/run` makes them anew and compares them with the stored ones.
  *
- * a is book A of the scope, faulty_1 to faulty_8 its examples of the refusals 1 to 8, and faulty_8_turned an installer's book, with one word turned.
+ * a is book A of the scope, faulty_1 to faulty_8 its examples of the refusals 1 to 8, faulty_1_form book A with the byte 3 of the long form, and
+ * faulty_8_turned an installer's book, with one word turned.
  *
- * line15 and line63 are geometry codes. The places of a word are the powers z^j of symbol 2 of GF(2^s), taken as the points other than 0 of the plane
- * (s 4) or the space (s 6) over GF(4). A dual word marks the points of a line that misses 0. Two points lie on one line only, so the check values at
- * a place share no other place, and an error elsewhere spoils at most one of them. There is a dual word for each class of lines under turning, and
- * the code is the largest that all of them allow.
+ * line15, line63 and line255 are geometry codes, the last one of the long form. The places of a word are the powers z^j of a z of GF(2^s), taken as the
+ * points other than 0 of the plane (s 4) or the space (s 6, s 8) over GF(4). A dual word marks the points of a line that misses 0. Two points lie on
+ * one line only, so the check values at a place share no other place, and an error elsewhere spoils at most one of them. There is a dual word for
+ * each class of lines under turning, and the code is the largest that all of them allow.
  */
 #include "shiftsum.h"
 
 #include <stdio.h>
 #include <string.h>
 
-enum { BODY = 63, RECORD = 64, AT_P = 2, AT_GENERATOR = 4, AT_D = 69, AT_DUAL_WORD = 71, LINES_MAX = 32 };
+enum { BODY = 63, LONG_BODY = 255, AT_P = 2, AT_FORM = 3, AT_GENERATOR = 4, AT_D = 69, AT_DUAL_WORD = 71, LINES_MAX = 32 };
 
 struct bytes {
     size_t len;
@@ -37,12 +38,17 @@ static void put_body(struct bytes *to, const char *digits)
         put(to, j < count ? (unsigned)(digits[j] - '0') : 0);
 }
 
-/* The same of a polynomial with coefficients 0 and 1, bit j for x^j. */
-static void put_bits(struct bytes *to, uint64_t bits)
+/* A polynomial with coefficients 0 and 1, and a word of such symbols: place j is that of x^j. x^255 - 1 has the most. */
+struct polynomial {
+    uint8_t at[LONG_BODY + 1];
+};
+
+/* The same of a polynomial, in a body of either form. */
+static void put_polynomial(struct bytes *to, const struct polynomial *a, unsigned width)
 {
     unsigned j;
-    for (j = 0; j < BODY; j++)
-        put(to, (unsigned)(bits >> j & 1));
+    for (j = 0; j < width; j++)
+        put(to, a->at[j]);
 }
 
 static void make_a(struct bytes *book)
@@ -71,6 +77,13 @@ static void make_faulty(struct bytes *book, unsigned number)
     }
 }
 
+/* Book A with the byte 3 of the long form, which no book of 134 bytes has. */
+static void make_other_form(struct bytes *book)
+{
+    make_a(book);
+    book->at[AT_FORM] = 5;
+}
+
 /* Book A with its dual word and the same turned, which counts every check twice. */
 static void make_turned(struct bytes *book)
 {
@@ -78,87 +91,102 @@ static void make_turned(struct bytes *book)
     put(book, 4), put_body(book, "1101001");
 }
 
-/* Polynomials with coefficients 0 and 1 of degree 63 at most, bit j for x^j. */
-static int degree(uint64_t a)
+static int degree(const struct polynomial *a)
 {
-    int d = -1;
-    for (; a != 0; a >>= 1)
-        d++;
+    int d = LONG_BODY;
+    while (d >= 0 && a->at[d] == 0)
+        d--;
     return d;
 }
 
-static uint64_t divide(uint64_t a, uint64_t b, uint64_t *remainder)
+/* The quotient; a becomes the remainder. */
+static struct polynomial divide(struct polynomial *a, const struct polynomial *b)
 {
-    uint64_t quotient = 0;
-    while (degree(a) >= degree(b)) {
-        int up = degree(a) - degree(b);
-        quotient |= (uint64_t)1 << up;
-        a ^= b << up;
+    struct polynomial quotient = {{0}};
+    int j, d = degree(b);
+    while (degree(a) >= d) {
+        int up = degree(a) - d;
+        quotient.at[up] = 1;
+        for (j = 0; j <= d; j++)
+            a->at[up + j] ^= b->at[j];
     }
-    *remainder = a;
     return quotient;
 }
 
-static uint64_t greatest_divisor(uint64_t a, uint64_t b)
+static struct polynomial greatest_divisor(struct polynomial a, struct polynomial b)
 {
-    while (b != 0) {
-        uint64_t remainder;
-        divide(a, b, &remainder);
+    while (degree(&b) >= 0) {
+        struct polynomial remainder = a;
+        divide(&remainder, &b);
         a = b;
         b = remainder;
     }
     return a;
 }
 
-/* Product of GF(2^s), by the polynomial that the scope gives s; s is 4 or 6 here. */
+/* x^n - 1. */
+static struct polynomial whole(unsigned n)
+{
+    struct polynomial a = {{0}};
+    a.at[0] = 1;
+    a.at[n] = 1;
+    return a;
+}
+
+/* Product of GF(2^s), by the polynomial that the scope gives s, or, for s 8, by one whose root has 255 powers as well. */
 static unsigned product(unsigned s, unsigned a, unsigned b)
 {
+    static const unsigned polynomials[] = {[4] = 19, [6] = 91, [8] = 285};
     unsigned r = 0;
     for (; b != 0; b >>= 1) {
         r ^= b & 1 ? a : 0;
-        a = a << 1 ^ (a >> (s - 1) & 1 ? (s == 4 ? 19u : 91u) : 0);
+        a = a << 1 ^ (a >> (s - 1) & 1 ? polynomials[s] : 0);
     }
     return r;
 }
 
-/* The line through 1 = z^0 in direction z^d, bit j for the point z^j; 0 where it meets 0. */
-static uint64_t line(unsigned s, unsigned n, unsigned d)
+/* The line through 1 = z^0 in direction z^d, 1 at place j for the point z^j; 0 where it meets 0. */
+static int find_line(unsigned s, unsigned n, unsigned d, struct polynomial *line)
 {
-    unsigned power[BODY] = {1}, t, j;
-    uint64_t places = 1;
+    unsigned power[LONG_BODY] = {1}, t, j;
     for (j = 1; j < n; j++)
         power[j] = product(s, power[j - 1], 2);
+    memset(line, 0, sizeof *line);
+    line->at[0] = 1;
     for (t = 0; t < 3; t++) {
         unsigned point = 1 ^ product(s, power[t * (n / 3)], power[d]);
         if (point == 0)
             return 0;
         for (j = 0; power[j] != point; j++)
             continue;
-        places |= (uint64_t)1 << j;
+        line->at[j] = 1;
     }
-    return places;
+    return 1;
 }
 
-static int turn_of(uint64_t a, uint64_t b, unsigned n)
+static int turn_of(const struct polynomial *a, const struct polynomial *b, unsigned n)
 {
-    unsigned t;
+    unsigned t, j;
     for (t = 0; t < n; t++) {
-        if (a == b)
+        for (j = 0; j < n && a->at[j] == b->at[(j + t) % n]; j++)
+            continue;
+        if (j == n)
             return 1;
-        a = (a << 1 | a >> (n - 1)) & (((uint64_t)1 << n) - 1);
     }
     return 0;
 }
 
 /* One line for each class. */
-static unsigned find_lines(unsigned s, unsigned n, uint64_t *lines)
+static unsigned find_lines(unsigned s, unsigned n, struct polynomial *lines)
 {
+    struct polynomial found;
     unsigned count = 0, d, i;
     for (d = 0; d < n; d++) {
-        uint64_t found = line(s, n, d);
-        for (i = 0; i < count && !turn_of(lines[i], found, n); i++)
+        if (!find_line(s, n, d, &found))
             continue;
-        if (found != 0 && i == count)
+        for (i = 0; i < count && !turn_of(&lines[i], &found, n); i++)
+            continue;
+        if (i == count)
             lines[count++] = found;
     }
     return count;
@@ -166,18 +194,20 @@ static unsigned find_lines(unsigned s, unsigned n, uint64_t *lines)
 
 static void make_line(struct bytes *book, unsigned s, unsigned p, unsigned most_rounds, unsigned most_places)
 {
-    uint64_t lines[LINES_MAX], common, none;
-    unsigned n = (1u << s) - 1, i, count = find_lines(s, n, lines);
+    struct polynomial lines[LINES_MAX], common, generator;
+    unsigned n = (1u << s) - 1, width = s < 7 ? BODY : LONG_BODY, i, count = find_lines(s, n, lines);
     /* A code word's product with every line is zero modulo x^n - 1, so the generator is x^n - 1 without what all lines have in common with it. */
-    common = (uint64_t)1 << n | 1;
+    common = whole(n);
     for (i = 0; i < count; i++)
         common = greatest_divisor(common, lines[i]);
+    generator = whole(n);
+    generator = divide(&generator, &common);
     book->len = 0;
     put(book, 1), put(book, s), put(book, p);
-    put(book, 2), put_bits(book, divide((uint64_t)1 << n | 1, common, &none));
+    put(book, width == BODY ? 2 : 5), put_polynomial(book, &generator, width);
     put(book, 3), put(book, most_rounds), put(book, most_places);
     for (i = 0; i < count; i++)
-        put(book, 4), put_bits(book, lines[i]);
+        put(book, width == BODY ? 4 : 6), put_polynomial(book, &lines[i], width);
 }
 
 /* The program's input: the book's length, low byte first, the book, and the words' symbols one after another. */
@@ -238,6 +268,8 @@ int main(int argc, char **argv)
     save(argv[2], "every_kind", "in", &stream);
     make_line(&book, 6, 2, 20, 10);
     save_book(argv[1], "line63", &book, 0);
+    make_line(&book, 8, 2, 20, 24);
+    save_book(argv[1], "line255", &book, 0);
     for (number = 1; number <= 8; number++) {
         name[7] = (char)('0' + number);
         make_faulty(&book, number);
@@ -247,6 +279,8 @@ int main(int argc, char **argv)
             save(argv[2], "faulty_book", "in", &stream);
         }
     }
+    make_other_form(&book);
+    save_book(argv[1], "faulty_1_form", &book, 1);
     make_turned(&book);
     save_book(argv[1], "faulty_8_turned", &book, 8);
     return failures == 0 ? 0 : 1;

@@ -11,7 +11,7 @@
 #include <stdio.h>
 #include <string.h>
 
-static struct book book_a, line15, line63;
+static struct book book_a, line15, line63, line255;
 static struct game game;
 static unsigned long passed, failed;
 
@@ -116,7 +116,7 @@ static void sends_short(const char *name, const struct book *book, struct frame 
     expect(name, held != NULL && held->verdict == TAKEN && memcmp(&game.frames[0], &frame, sizeof frame) == 0);
 }
 
-/* Of line63's 13 symbols a ball fills up to two, of line15's 7 the first ball up to four, of book A's 4 all. */
+/* Of line63's 13 symbols, and of line255's 21, a ball fills up to two, of line15's 7 the first ball up to four, of book A's 4 all. */
 static void test_short(void)
 {
     sends_short("an open frame", &line63, (struct frame){{8, 1, 0}}, 3);
@@ -127,6 +127,9 @@ static void test_short(void)
     sends_short("a spare", &line63, (struct frame){{7, 3, 0}}, 3);
     sends_short("the tenth frame", &line63, (struct frame){{10, 9, 1}}, 5);
     sends_short("three strikes", &line63, (struct frame){{10, 10, 10}}, 6);
+    sends_short("line255, an open frame", &line255, (struct frame){{8, 1, 0}}, 3);
+    sends_short("line255, no pin", &line255, (struct frame){{0, 0, 0}}, 1);
+    sends_short("line255, three strikes", &line255, (struct frame){{10, 10, 10}}, 6);
     sends_short("line15, nine pins", &line15, (struct frame){{9, 0, 0}}, 4);
     sends_short("line15, one pin", &line15, (struct frame){{1, 0, 0}}, 1);
     sends_short("line15, no pin", &line15, (struct frame){{0, 0, 0}}, 1);
@@ -146,7 +149,8 @@ static int load(struct book *book, const char *folder, const char *name)
 
 int main(int argc, char **argv)
 {
-    if (argc != 2 || !load(&book_a, argv[1], "a") || !load(&line15, argv[1], "line15") || !load(&line63, argv[1], "line63"))
+    if (argc != 2 || !load(&book_a, argv[1], "a") || !load(&line15, argv[1], "line15") || !load(&line63, argv[1], "line63") ||
+        !load(&line255, argv[1], "line255"))
         return 2;
     test_verdicts();
     test_server();

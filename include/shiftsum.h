@@ -3,15 +3,18 @@
  *
  * A symbol is a byte below q = 2^p. A word is n = 2^s - 1 symbols, place j the coefficient of x^j; a message is k = n - degree(g) symbols, or fewer where
  * the high ones are zero and left out, and a remainder on division by g is n - k. s, p, the generator g and the dual words come from a codebook, which
- * every call is given:
+ * every call is given. It has one of two forms, the short one for words of 3 to 63 symbols and the long one for words of 127 and 255; byte 3 chooses,
+ * 2 for the short form and 5 for the long one, and never the length, since there are lengths of both:
  *
- *     offset          bytes   content
- *     0               1, 2    1; s from 2 to 6, and p, which divides s
- *     3               1, 63   2; g, coefficients from x^0, leading one 1; it divides x^n - 1
- *     67              1, 2    3; I, most rounds, 1 to 63, and D, most places of a count in the update rule, 1 to n
- *     70 + 64 l       1, 63   4; dual word l: 1 at place 0, its product with g is zero, all of one weight, no two alike; l below L, L from 1 to 32
+ *     short form   bytes   long form    bytes    content
+ *     0            1, 2    0            1, 2     1; s and p
+ *     3            1, 63   3            1, 255   2 (short) or 5 (long); g, coefficients from x^0, leading one 1; it divides x^n - 1
+ *     67           1, 2    259          1, 2     3; I, most rounds, 1 to 63, and D, most places of a count in the update rule, 1 to n
+ *     70 + 64 l    1, 63   262 + 256 l  1, 255   4 (short) or 6 (long); dual word l: 1 at place 0, its product with g is zero, all of one weight, no
+ *                                                two alike; l below L, L from 1 to 32
  *
- * Places from n on are zero. A codebook that breaks a rule is refused by number.
+ * In the short form s is 2 to 6, and p divides s; in the long one s is 7, and p 1, or s is 8, and p 1, 2 or 4. Places from n to the end of a body are
+ * zero. A codebook that breaks a rule is refused by number.
  *
  *     uint8_t word[7], answer[7], message[4];                        book A of the tests has n 7, k 4, q 2
  *     uint32_t r = shiftsum_code(book, 134, frame, 4, word, 7);      0: coded
@@ -28,7 +31,8 @@
  *   - It is a pure function of its arguments: no state, no allocation, no input or output, no errno. Any number of threads may call at once.
  *   - It ends for every input.
  *   - It writes its one output whole, or, where it is refused, not at all. Every other buffer is only read.
- *   - It takes less than SHIFTSUM_STACK bytes of stack. This is measured, not proved.
+ *   - It takes less than SHIFTSUM_STACK bytes of stack with a codebook of the short form, less than SHIFTSUM_STACK_LONG with any, also with one that
+ *     is refused. This is measured, not proved.
  *
  * What the caller sees to, since no call can:
  *   - No pointer is null, also where its length is 0. Memory needs no alignment.
@@ -46,24 +50,26 @@
 extern "C" {
 #endif
 
-/* Bytes of an accepted codebook: 70 + 64 L. */
+/* Bytes of an accepted codebook: 70 + 64 L in the short form, to 2118, and 262 + 256 L in the long one. */
 #define SHIFTSUM_BOOK_MIN 134
-#define SHIFTSUM_BOOK_MAX 2118
+#define SHIFTSUM_BOOK_MAX 8454
 
-/* Symbols of a word: n. k is 1 to n - 1, and so is n - k. */
+/* Symbols of a word: n, to 63 in the short form. k is 1 to n - 1, and so is n - k. */
 #define SHIFTSUM_WORD_MIN 3
-#define SHIFTSUM_WORD_MAX 63
+#define SHIFTSUM_WORD_MAX 255
 
-/* Bytes of stack that are enough for any call. */
-#define SHIFTSUM_STACK 61440
+/* Bytes of stack that are enough for any call with a codebook of the short form, and for any call at all. */
+#define SHIFTSUM_STACK 65536
+#define SHIFTSUM_STACK_LONG 81920
 
 /*
  * A result is four bytes in a number. The lowest is 0, or the number of the refusal, and then the other three are 0. The first number that applies
  * is the one returned:
  *
- *      1  codebook: its length                                                       check, code, read, remainder, decode
+ *      1  codebook: its length is none of the form that byte 3 chooses, or, with     check, code, read, remainder, decode
+ *         another byte 3, of neither form; so also fewer than 4 bytes
  *      2  codebook: a kind byte                                                      check, code, read, remainder, decode
- *      3  codebook: s or p                                                           check, code, read, remainder, decode
+ *      3  codebook: s or p, also an s of the other form                              check, code, read, remainder, decode
  *      4  codebook: a symbol of q or more, or a nonzero place from n on              check, code, read, remainder, decode
  *      5  codebook: the generator                                                    check, code, read, remainder, decode
  *      6  codebook: I or D                                                           check, code, read, remainder, decode

@@ -1,6 +1,6 @@
 /*
- * The library called from C by its header alone: the scope's codebooks A, B and C, its cases, and the refusals of its table. It is C++ as well,
- * since the header is.
+ * The library called from C by its header alone: the scope's codebooks A, B and C, its cases, the refusals of its table, and the longest words and
+ * codebooks of both forms. It is C++ as well, since the header is.
  *
  * Every input ends where its block of memory ends, so that a memory checker sees a read beyond it. Every output lies between guards.
  */
@@ -11,7 +11,10 @@
 #include <stdlib.h>
 #include <string.h>
 
-enum { BOOK = 134, RECORD = 64, WORD_A = 7, MESSAGE_A = 4, REMAINDER_A = 3, LARGEST = 63, GUARD = 32 };
+enum { BOOK = 134, RECORD = 64, WORD_A = 7, MESSAGE_A = 4, REMAINDER_A = 3, LARGEST = SHIFTSUM_WORD_MAX, GUARD = 32 };
+
+/* A codebook of the long form with one dual word, and a record of it; where its I and its dual words lie. */
+enum { LONG_BOOK = 518, LONG_RECORD = 256, LONG_I = 260, LONG_DUAL_WORD = 263 };
 
 /* Where the parts of a codebook lie. */
 enum { AT_KIND = 0, AT_S = 1, AT_P = 2, AT_G = 4, AT_I = 68, AT_D = 69, AT_DUAL_WORD = 71 };
@@ -224,6 +227,7 @@ static void test_macros(void)
     expect_number("macros", "the refusal", SHIFTSUM_REFUSAL(0xffffff00u | 12u), 12);
     expect_number("macros", "the count of dual words", SHIFTSUM_DUAL_WORDS(0xffff00ffu | 0x100u), 1);
     expect_number("macros", "the count of places changed", SHIFTSUM_CHANGED(0xffff00ffu | 0x3f00u), 63);
+    expect_number("macros", "the count of places changed", SHIFTSUM_CHANGED(0x4d01ff00u), SHIFTSUM_WORD_MAX);
     expect_number("macros", "the count of rounds", SHIFTSUM_ROUNDS(0xff00ffffu | 0x10000u), 1);
     expect_number("macros", "the kind", (unsigned char)SHIFTSUM_KIND(0x00ffffffu | 0x58000000u), SHIFTSUM_SPENT);
     expect_number("macros", "Clean", SHIFTSUM_CLEAN, 'C');
@@ -393,10 +397,10 @@ static void test_refused_calls(void)
     refuses("refusal 10: a remainder of 4", shiftsum_remainder, book_a, "1000000", 4, 10);
     refuses("refusal 10: a remainder of 7", shiftsum_remainder, book_a, "1101000", 7, 10);
     refuses("refusal 10: a remainder of 0", shiftsum_remainder, book_a, "1101000", 0, 10);
-    refuses("refusal 10: a remainder of 63", shiftsum_remainder, book_a, "1000000", LARGEST, 10);
+    refuses("refusal 10: a remainder of 63", shiftsum_remainder, book_a, "1000000", 63, 10);
     refuses("refusal 10: an answer of 6", shiftsum_decode, book_a, "1000000", 6, 10);
     refuses("refusal 10: an answer of 0", shiftsum_decode, book_a, "1000000", 0, 10);
-    refuses("refusal 10: an answer of 63", shiftsum_decode, book_a, "1000000", LARGEST, 10);
+    refuses("refusal 10: an answer of 63", shiftsum_decode, book_a, "1000000", 63, 10);
     refuses("refusal 11: code 0002", shiftsum_code, book_a, "0002", WORD_A, 11);
     refuses("refusal 11: read 2000000", shiftsum_read, book_a, "2000000", MESSAGE_A, 11);
     refuses("refusal 11: the remainder of 2000000", shiftsum_remainder, book_a, "2000000", REMAINDER_A, 11);
@@ -436,99 +440,226 @@ static void test_refused_lengths(void)
     refuses("refusals 10 and 11", shiftsum_code, book_a, "2", 6, 10);
 }
 
-/* n 63 over GF(64): g is x + 1, so that place j of a code word is the sum of places j and j - 1 of the message, and the one symbol of a remainder is
- * the sum of all symbols of the word. */
-static void make_largest(uint8_t *book)
+/* The longest words of each form, over every field that they can have. */
+static const struct shape {
+    const char *name;
+    uint8_t s, p;
+    size_t n, width; /* of a body */
+    uint8_t error;   /* a symbol of as many digits as there are */
+} shapes[] = {
+    {"n 63, q 64", 6, 6, 63, 63, 42}, {"n 127, q 2", 7, 1, 127, 255, 1}, {"n 255, q 2", 8, 1, 255, 255, 1},
+    {"n 255, q 4", 8, 2, 255, 255, 3}, {"n 255, q 16", 8, 4, 255, 255, 13},
+};
+
+/* The kinds, s, p, I and D of a codebook with so many dual words, and zeros; its length. */
+static size_t make_frame(uint8_t *book, const struct shape *shape, unsigned rounds, unsigned places, size_t dual_words)
 {
-    static const uint8_t start[] = {1, 6, 6, 2, 1, 1};
-    memset(book, 0, BOOK);
-    memcpy(book, start, sizeof start);
-    book[67] = 3;
-    book[AT_I] = 63;
-    book[AT_D] = 63;
-    book[AT_DUAL_WORD - 1] = 4;
-    memset(book + AT_DUAL_WORD, 1, LARGEST);
+    const size_t limits = 4 + shape->width, record = 1 + shape->width;
+    const int is_long = shape->width == LARGEST;
+    size_t i;
+    memset(book, 0, limits + 3 + record * dual_words);
+    book[0] = 1, book[AT_S] = shape->s, book[AT_P] = shape->p;
+    book[3] = is_long ? 5 : 2;
+    book[limits] = 3, book[limits + 1] = (uint8_t)rounds, book[limits + 2] = (uint8_t)places;
+    for (i = 0; i < dual_words; i++)
+        book[limits + 3 + record * i] = is_long ? 6 : 4;
+    return limits + 3 + record * dual_words;
+}
+
+/* g is x + 1, so that place j of a code word is the sum of places j and j - 1 of the message, and the one symbol of a remainder is the sum of all
+ * symbols of the word. The dual word has 1 at all places. */
+static size_t make_sums(uint8_t *book, const struct shape *shape)
+{
+    size_t len = make_frame(book, shape, 63, (unsigned)shape->n, 1);
+    book[AT_G] = 1, book[AT_G + 1] = 1;
+    memset(book + len - shape->width, 1, shape->n);
+    return len;
+}
+
+/* g has 1 at all places: a message is one symbol, and its word has that symbol at all places. Dual word i has 1 at place 0 and at place i + 1. */
+static size_t make_repeats(uint8_t *book, const struct shape *shape, size_t dual_words)
+{
+    size_t len = make_frame(book, shape, 3, 1, dual_words), i;
+    memset(book + AT_G, 1, shape->n);
+    for (i = 0; i < dual_words; i++) {
+        uint8_t *body = book + len - (1 + shape->width) * (dual_words - i) + 1;
+        body[0] = 1, body[i + 1] = 1;
+    }
+    return len;
 }
 
 /* The word of its message, with zeros for the symbols from len on. */
-static void put_word(uint8_t *word, uint8_t *message, size_t len)
+static void put_word(uint8_t *word, uint8_t *message, const struct shape *shape, size_t len)
 {
+    const size_t n = shape->n;
     size_t j;
-    for (j = 0; j < LARGEST - 1; j++)
-        message[j] = (uint8_t)(j < len ? 63 - j : 0);
-    for (j = 0; j < LARGEST; j++)
-        word[j] = (uint8_t)((j < LARGEST - 1 ? message[j] : 0) ^ (j > 0 ? message[j - 1] : 0));
+    for (j = 0; j < n - 1; j++)
+        message[j] = (uint8_t)(j < len ? (n - j) % (1u << shape->p) : 0);
+    for (j = 0; j < n; j++)
+        word[j] = (uint8_t)((j < n - 1 ? message[j] : 0) ^ (j > 0 ? message[j - 1] : 0));
 }
 
-static void test_every_length(void)
+static void test_every_length(const struct shape *shape)
 {
     static const uint8_t zeros[LARGEST + 1] = {0};
-    uint8_t book[BOOK], message[LARGEST - 1], word[LARGEST];
+    uint8_t book[LONG_BOOK], message[LARGEST - 1], word[LARGEST];
+    const size_t book_len = make_sums(book, shape), n = shape->n;
     char name[64];
     size_t len;
-    make_largest(book);
-    call("n 63, no symbols", shiftsum_code, book, BOOK, zeros, 0, NULL, LARGEST, 9);
-    for (len = 1; len <= LARGEST - 1; len++) {
-        snprintf(name, sizeof name, "n 63, %lu symbols", (unsigned long)len);
-        put_word(word, message, len);
-        call(name, shiftsum_code, book, BOOK, message, len, word, LARGEST, 0);
-        call(name, shiftsum_code, book, BOOK, message, LARGEST - 1, word, LARGEST, 0);
-        call(name, shiftsum_read, book, BOOK, word, LARGEST, message, LARGEST - 1, 0);
+    call(shape->name, shiftsum_code, book, book_len, zeros, 0, NULL, n, 9);
+    for (len = 1; len <= n - 1; len++) {
+        snprintf(name, sizeof name, "%s, %lu symbols", shape->name, (unsigned long)len);
+        put_word(word, message, shape, len);
+        call(name, shiftsum_code, book, book_len, message, len, word, n, 0);
+        call(name, shiftsum_code, book, book_len, message, n - 1, word, n, 0);
+        call(name, shiftsum_read, book, book_len, word, n, message, n - 1, 0);
     }
-    call("n 63, 63 symbols", shiftsum_code, book, BOOK, zeros, LARGEST, NULL, LARGEST, 9);
-    call("n 63, 64 symbols", shiftsum_code, book, BOOK, zeros, LARGEST + 1, NULL, LARGEST, 9);
+    call(shape->name, shiftsum_code, book, book_len, zeros, n, NULL, n, 9);
+    call(shape->name, shiftsum_code, book, book_len, zeros, n + 1, NULL, n, 9);
 }
 
-static void test_largest(void)
+static void test_largest(const struct shape *shape)
 {
-    const uint8_t no_error = 0, error = 42;
-    uint8_t book[BOOK], message[LARGEST - 1], word[LARGEST], received[LARGEST], answer[LARGEST];
+    const uint8_t no_error = 0, error = shape->error;
+    const char *const is = shape->name;
+    uint8_t book[LONG_BOOK], message[LARGEST - 1], word[LARGEST], received[LARGEST], answer[LARGEST];
+    const size_t len = make_sums(book, shape), n = shape->n;
     size_t j;
-    make_largest(book);
-    put_word(word, message, LARGEST - 1);
-    expect_number("n 63", "the result of check", shiftsum_check(book, BOOK), 0x100);
-    call("n 63, code", shiftsum_code, book, BOOK, message, LARGEST - 1, word, LARGEST, 0);
-    call("n 63, read", shiftsum_read, book, BOOK, word, LARGEST, message, LARGEST - 1, 0);
-    call("n 63, the remainder of a code word", shiftsum_remainder, book, BOOK, word, LARGEST, &no_error, 1, 0);
-    call("n 63, decode a code word", shiftsum_decode, book, BOOK, word, LARGEST, word, LARGEST, decoded(SHIFTSUM_CLEAN, 0, 0));
-    /* Every check value is the sum of all symbols, which is the error; so it is subtracted at all 63 places, and the sum is 0 then. */
-    memcpy(received, word, LARGEST);
+    put_word(word, message, shape, n - 1);
+    expect_number(is, "the result of check", shiftsum_check(book, len), 0x100);
+    call(is, shiftsum_code, book, len, message, n - 1, word, n, 0);
+    call(is, shiftsum_read, book, len, word, n, message, n - 1, 0);
+    call(is, shiftsum_remainder, book, len, word, n, &no_error, 1, 0);
+    call(is, shiftsum_decode, book, len, word, n, word, n, decoded(SHIFTSUM_CLEAN, 0, 0));
+    /* Every check value is the sum of all symbols, which is the error; so it is subtracted at all n places, an odd number, and the sum is 0 then. */
+    memcpy(received, word, n);
     received[17] ^= error;
-    for (j = 0; j < LARGEST; j++)
+    for (j = 0; j < n; j++)
         answer[j] = received[j] ^ error;
-    call("n 63, decode an error", shiftsum_decode, book, BOOK, received, LARGEST, answer, LARGEST, decoded(SHIFTSUM_MENDED, 1, 63));
-    call("n 63, the remainder of an error", shiftsum_remainder, book, BOOK, received, LARGEST, &error, 1, 0);
-    call("n 63, read an error", shiftsum_read, book, BOOK, received, LARGEST, NULL, LARGEST - 1, 12);
-    received[62] = 64;
-    call("n 63, decode a bad symbol", shiftsum_decode, book, BOOK, received, LARGEST, NULL, LARGEST, 11);
-    call("n 63, the remainder of a bad symbol", shiftsum_remainder, book, BOOK, received, LARGEST, NULL, 1, 11);
+    call(is, shiftsum_decode, book, len, received, n, answer, n, decoded(SHIFTSUM_MENDED, 1, (unsigned)n));
+    call(is, shiftsum_remainder, book, len, received, n, &error, 1, 0);
+    call(is, shiftsum_read, book, len, received, n, NULL, n - 1, 12);
+    received[n - 1] = (uint8_t)(1u << shape->p);
+    call(is, shiftsum_decode, book, len, received, n, NULL, n, 11);
+    call(is, shiftsum_remainder, book, len, received, n, NULL, 1, 11);
+    call(is, shiftsum_decode, book, len, received, n - 1, NULL, n, 9);
+    call(is, shiftsum_decode, book, len, received, n, NULL, n - 1, 10);
 }
 
-/* The longest remainder: g has 1 at all 63 places, so that a message is one symbol and x^62 is the sum of the powers below it. */
-static void test_longest_remainder(void)
+/* The longest remainder: x^(n - 1) is the sum of the powers below it. */
+static void test_longest_remainder(const struct shape *shape)
 {
-    uint8_t book[BOOK] = {1, 6, 6, 2};
-    uint8_t word[LARGEST], rest[LARGEST - 1];
+    uint8_t book[LONG_BOOK], word[LARGEST], rest[LARGEST - 1];
+    const size_t len = make_repeats(book, shape, 1), n = shape->n;
     size_t j;
-    memset(book + AT_G, 1, LARGEST);
-    book[67] = 3;
-    book[AT_I] = 1;
-    book[AT_D] = 1;
-    book[AT_DUAL_WORD - 1] = 4;
-    book[AT_DUAL_WORD] = 1;
-    book[AT_DUAL_WORD + 1] = 1;
-    expect_number("n 63, k 1", "the result of check", shiftsum_check(book, BOOK), 0x100);
-    for (j = 0; j < LARGEST; j++)
-        word[j] = (uint8_t)j;
-    for (j = 0; j < LARGEST - 1; j++)
-        rest[j] = (uint8_t)(word[j] ^ word[LARGEST - 1]);
-    call("n 63, k 1, the remainder", shiftsum_remainder, book, BOOK, word, LARGEST, rest, LARGEST - 1, 0);
-    call("n 63, k 1, a remainder of 63", shiftsum_remainder, book, BOOK, word, LARGEST, NULL, LARGEST, 10);
-    call("n 63, k 1, a remainder of 1", shiftsum_remainder, book, BOOK, word, LARGEST, NULL, 1, 10);
+    expect_number(shape->name, "the result of check", shiftsum_check(book, len), 0x100);
+    for (j = 0; j < n; j++)
+        word[j] = (uint8_t)(j % (1u << shape->p));
+    for (j = 0; j < n - 1; j++)
+        rest[j] = (uint8_t)(word[j] ^ word[n - 1]);
+    call(shape->name, shiftsum_remainder, book, len, word, n, rest, n - 1, 0);
+    call(shape->name, shiftsum_remainder, book, len, word, n, NULL, n, 10);
+    call(shape->name, shiftsum_remainder, book, len, word, n, NULL, 1, 10);
+}
+
+/* The longest codebook of each form: 31 or 32 dual words, of which 32 at n 63 would have two alike. */
+static void test_longest_book(const struct shape *shape)
+{
+    uint8_t book[SHIFTSUM_BOOK_MAX], word[LARGEST], received[LARGEST], message;
+    const size_t dual_words = shape->width == LARGEST ? 32 : 31;
+    const size_t len = make_repeats(book, shape, dual_words), n = shape->n;
+    expect_number(shape->name, "the length", len, dual_words == 32 ? SHIFTSUM_BOOK_MAX : 70 + 64 * 31);
+    expect_number(shape->name, "the result of check", shiftsum_check(book, len), dual_words << 8);
+    memset(word, shape->error, n);
+    message = shape->error;
+    call(shape->name, shiftsum_code, book, len, &message, 1, word, n, 0);
+    call(shape->name, shiftsum_read, book, len, word, n, &message, 1, 0);
+    /* Each dual word checks the last place by one before and one after it, and any other place by the last one once at most. */
+    memcpy(received, word, n);
+    received[n - 1] = 0;
+    call(shape->name, shiftsum_decode, book, len, received, n, word, n, decoded(SHIFTSUM_MENDED, 1, 1));
+    call(shape->name, shiftsum_decode, book, len, word, n, word, n, decoded(SHIFTSUM_CLEAN, 0, 0));
+}
+
+/* A copy of a codebook of the long form with one byte changed, good until the next one. */
+static const uint8_t *with_long(const uint8_t *book, size_t at, uint8_t byte)
+{
+    static uint8_t copy[SHIFTSUM_BOOK_MAX + LONG_RECORD];
+    memmove(copy, book, sizeof copy);
+    copy[at] = byte;
+    return copy;
+}
+
+/* Byte 3 chooses the form, and never the length; 518 bytes are of both. */
+static void test_forms(void)
+{
+    static uint8_t book[SHIFTSUM_BOOK_MAX + LONG_RECORD];
+    size_t len;
+    refused("134 bytes, byte 3 is 5", with(book_a, 3, 5), BOOK, 1);
+    refused("134 bytes, byte 3 is 9", with(book_a, 3, 9), BOOK, 2);
+    refused("133 bytes, byte 3 is 9", with(book_a, 3, 9), BOOK - 1, 1);
+    refused("3 bytes", book_a, 3, 1);
+    refused("4 bytes", book_a, 4, 1);
+    refused("short form, s 8", with(book_a, AT_S, 8), BOOK, 3);
+    refused("short form, kind 6", with(book_a, AT_DUAL_WORD - 1, 6), BOOK, 2);
+    len = make_repeats(book, &shapes[4], 8);
+    expect_number("2310 bytes", "the length", len, 2310);
+    expect_number("2310 bytes", "the result", shiftsum_check(book, len), 0x800);
+    refused("2310 bytes, byte 3 is 9", with_long(book, 3, 9), len, 2);
+    refused("2310 bytes, byte 3 is 2", with_long(book, 3, 2), len, 1);
+    refused("2309 bytes", book, len - 1, 1);
+    refused("2311 bytes", book, len + 1, 1);
+    len = make_repeats(book, &shapes[0], 7);
+    expect_number("short, 7 dual words", "the length", len, LONG_BOOK);
+    expect_number("short, 7 dual words", "the result", shiftsum_check(book, len), 0x700);
+    refused("518 bytes of the short form, byte 3 is 5", with_long(book, 3, 5), len, 2);
+    len = make_repeats(book, &shapes[4], 1);
+    expect_number("long, 1 dual word", "the length", len, LONG_BOOK);
+    expect_number("long, 1 dual word", "the result", shiftsum_check(book, len), 0x100);
+    refused("518 bytes of the long form, byte 3 is 2", with_long(book, 3, 2), len, 2);
+    make_repeats(book, &shapes[4], 32);
+    refused("8453 bytes", book, SHIFTSUM_BOOK_MAX - 1, 1);
+    refused("8455 bytes", book, SHIFTSUM_BOOK_MAX + 1, 1);
+    refused("8710 bytes", book, SHIFTSUM_BOOK_MAX + LONG_RECORD, 1);
+}
+
+/* What a codebook of n 127 is refused by. */
+static void test_refused_long_codebooks(void)
+{
+    static uint8_t book[SHIFTSUM_BOOK_MAX + LONG_RECORD];
+    const size_t len = make_repeats(book, &shapes[1], 2);
+    static const uint8_t sizes[][2] = {{0, 1}, {2, 1}, {6, 1}, {7, 0}, {7, 2}, {7, 4}, {7, 7},
+                                       {8, 0}, {8, 3}, {8, 5}, {8, 6}, {8, 7}, {8, 8}, {9, 1}};
+    char name[64];
+    size_t i;
+    expect_number("n 127, 2 dual words", "the result", shiftsum_check(book, len), 0x200);
+    refused("long form, kind 4", with_long(book, LONG_DUAL_WORD - 1, 4), len, 2);
+    refused("long form, the second kind 4", with_long(book, LONG_DUAL_WORD - 1 + LONG_RECORD, 4), len, 2);
+    refused("long form, first byte 2", with_long(book, 0, 2), len, 2);
+    for (i = 0; i < sizeof sizes / sizeof sizes[0]; i++) {
+        snprintf(name, sizeof name, "long form, s %u, p %u", (unsigned)sizes[i][0], (unsigned)sizes[i][1]);
+        memcpy(book + AT_S, sizes[i], 2);
+        refused(name, book, len, 3);
+    }
+    make_repeats(book, &shapes[1], 2);
+    refused("place 127 of g", with_long(book, AT_G + 127, 1), len, 4);
+    refused("place 254 of g", with_long(book, AT_G + 254, 1), len, 4);
+    refused("place 127 of a dual word", with_long(book, LONG_DUAL_WORD + 127, 1), len, 4);
+    refused("place 254 of the last dual word", with_long(book, LONG_DUAL_WORD + LONG_RECORD + 254, 1), len, 4);
+    refused("a symbol 2", with_long(book, LONG_DUAL_WORD + 126, 2), len, 4);
+    refused("g without its lead", with_long(book, AT_G + 126, 0), len, 5);
+    refused("I 64", with_long(book, LONG_I, 64), len, 6);
+    refused("D 128", with_long(book, LONG_I + 1, 128), len, 6);
+    refused("a dual word of weight 3", with_long(book, LONG_DUAL_WORD + 126, 1), len, 7);
+    /* 1 at places 0 and 125 is a turn of 1 at places 0 and 2. */
+    memset(book + LONG_DUAL_WORD, 0, 127);
+    book[LONG_DUAL_WORD] = 1, book[LONG_DUAL_WORD + 125] = 1;
+    refused("a dual word turned", book, len, 8);
 }
 
 int main(void)
 {
+    size_t i;
     test_macros();
     test_check();
     test_cases();
@@ -538,9 +669,14 @@ int main(void)
     test_alike_dual_words();
     test_refused_calls();
     test_refused_lengths();
-    test_every_length();
-    test_largest();
-    test_longest_remainder();
+    for (i = 0; i < sizeof shapes / sizeof shapes[0]; i++) {
+        test_every_length(&shapes[i]);
+        test_largest(&shapes[i]);
+        test_longest_remainder(&shapes[i]);
+        test_longest_book(&shapes[i]);
+    }
+    test_forms();
+    test_refused_long_codebooks();
     printf("%lu passed, %lu failed\n", passed, failed);
     return failed == 0 ? 0 : 1;
 }

@@ -2,7 +2,7 @@
  * The functions of the library on any bytes, against the second implementation: a target for libFuzzer.
  *
  * An input makes one codebook, a message, a received word and the sizes of the outputs, and all functions are called with them; decode again with a
- * few errors more where the word was not refused, and code, where the input asks for it, with a message of every length from 0 to k + 1. So that most
+ * few errors more where the word was not refused, and code, where the input asks for it, with messages of every length from 0 to k + 1. So that most
  * calls get past the codebook's refusals, an input mostly names an accepted codebook of a shelf and a few edits; it can give all bytes as well.
  *
  * The archive is not made for the sanitizer, which therefore sees nothing of what happens in it. So every buffer lies in pages of its own between
@@ -27,10 +27,19 @@ uint32_t reference_remainder(const uint8_t *book, size_t book_len, const uint8_t
 uint32_t reference_decode(const uint8_t *book, size_t book_len, const uint8_t *received, size_t received_len, uint8_t *answer, size_t answer_len);
 size_t reference_shelf(size_t number, uint8_t *book);
 
-enum { RECORD = 64, MOST_BOOK = 2600, LARGEST = 63, MOST_SHELF = 256, ROOM = 4096, SEEDS_EACH = 3 };
+enum { MOST_BOOK = 9000, LARGEST = SHIFTSUM_WORD_MAX, MOST_RECORD = LARGEST + 1, MOST_SHELF = 256, ROOM = 12288, SEEDS_EACH = 13 };
 
-/* Where the parts of a codebook lie. */
-enum { AT_S = 1, AT_P = 2, AT_G = 4, AT_I = 68, AT_D = 69, AT_RECORDS = 70 };
+/* Where the parts of a codebook lie: those that no form moves, and those that lie behind the generator. */
+enum { AT_S = 1, AT_P = 2, AT_FORM = 3, AT_G = 4 };
+
+static const struct form {
+    uint8_t generator, dual_word; /* kinds */
+    unsigned least_s, most_s;
+    size_t record; /* of a dual word */
+    size_t i, d, records;
+} forms[] = {{2, 4, 2, 6, 64, 68, 69, 70}, {5, 6, 7, 8, 256, 260, 261, 262}};
+
+enum { IN_SHORT, IN_LONG, FORMS };
 
 /* A decode that takes more products of symbols than this is left out: the second implementation is slow. */
 enum { MOST_PRODUCTS = 400000 };
@@ -42,6 +51,23 @@ struct bytes {
 
 static struct bytes shelf[MOST_SHELF];
 static size_t books;
+
+/* The form that byte 3 chooses, and the short one where it chooses none. */
+static int which_form(const struct bytes *book)
+{
+    return book->len > AT_FORM && book->at[AT_FORM] == forms[IN_LONG].generator ? IN_LONG : IN_SHORT;
+}
+
+static const struct form *form_of(const struct bytes *book)
+{
+    return &forms[which_form(book)];
+}
+
+/* Whether a codebook of the form can have so many bytes. */
+static int fits(const struct form *form, size_t len)
+{
+    return len > form->records && (len - form->records) % form->record == 0 && (len - form->records) / form->record <= 32;
+}
 
 /* --- The input, read from its front; zeros follow its end. --- */
 
@@ -87,10 +113,11 @@ struct shape {
 
 static struct shape shape_of(const struct bytes *book)
 {
+    const struct form *form = form_of(book);
     struct shape shape = {7, 4, 2, 1};
     size_t place, degree = 0;
     unsigned s = book->at[AT_S], p = book->at[AT_P];
-    if (book->len < AT_RECORDS || s < 2 || s > 6 || p < 1 || p > 6)
+    if (book->len < form->records || s < form->least_s || s > form->most_s || p < 1 || p > 6)
         return shape;
     shape.n = ((size_t)1 << s) - 1;
     shape.q = 1u << p;
@@ -104,22 +131,24 @@ static struct shape shape_of(const struct bytes *book)
 
 static unsigned long products(const struct bytes *book, struct shape shape)
 {
+    const struct form *form = form_of(book);
     unsigned long count = 0, weight = 0;
     size_t place;
-    if (book->len < AT_RECORDS + RECORD)
+    if (book->len < form->records + form->record)
         return 0;
-    count = (book->len - AT_RECORDS) / RECORD;
+    count = (book->len - form->records) / form->record;
     for (place = 0; place < shape.n; place++)
-        weight += book->at[AT_RECORDS + 1 + place] != 0;
-    return count * weight * weight * shape.n * (book->at[AT_I] > LARGEST ? 0 : book->at[AT_I]);
+        weight += book->at[form->records + 1 + place] != 0;
+    return count * weight * weight * shape.n * (book->at[form->i] > 63 ? 0 : book->at[form->i]);
 }
 
 /* --- The codebook of an input. --- */
 
 static uint8_t *record(struct bytes *book, unsigned number)
 {
-    size_t count = book->len < AT_RECORDS + RECORD ? 0 : (book->len - AT_RECORDS) / RECORD;
-    return count == 0 ? NULL : book->at + AT_RECORDS + RECORD * (number % count);
+    const struct form *form = form_of(book);
+    size_t count = book->len < form->records + form->record ? 0 : (book->len - form->records) / form->record;
+    return count == 0 ? NULL : book->at + form->records + form->record * (number % count);
 }
 
 static void append(struct bytes *book, const uint8_t *from, size_t len)
@@ -173,12 +202,14 @@ static int likeness(const uint8_t *a, const uint8_t *b, struct shape shape)
 }
 
 /* The fewest that make one dual word of another; no dual word is looked at that is not 1 at place 0. */
-static int copied(const uint8_t *book, size_t len, struct shape shape)
+static int copied(const struct bytes *book)
 {
+    const struct form *form = form_of(book);
+    const struct shape shape = shape_of(book);
     int best = UNLIKE, way;
-    const uint8_t *one, *other, *first = book + AT_RECORDS + 1;
-    for (one = first; one < book + len; one += RECORD)
-        for (other = first; other < one; other += RECORD) {
+    const uint8_t *one, *other, *first = book->at + form->records + 1;
+    for (one = first; one < book->at + book->len; one += form->record)
+        for (other = first; other < one; other += form->record) {
             way = *one == 1 ? likeness(one, other, shape) : UNLIKE;
             best = way < best ? way : best;
         }
@@ -190,10 +221,11 @@ static int copied(const uint8_t *book, size_t len, struct shape shape)
 static void copy(struct bytes *book, uint8_t *one, size_t from, unsigned how)
 {
     const struct shape shape = shape_of(book);
-    uint8_t made[RECORD];
+    const size_t record_len = form_of(book)->record;
+    uint8_t made[MOST_RECORD];
     size_t place, by = from % shape.n;
     unsigned factor = 1;
-    memcpy(made, one, RECORD);
+    memcpy(made, one, record_len);
     while (by < 2 * shape.n && one[1 + by % shape.n] == 0)
         by++;
     if (how / 2 % 4 == 1)
@@ -203,22 +235,73 @@ static void copy(struct bytes *book, uint8_t *one, size_t from, unsigned how)
     for (place = 0; place < shape.n; place++)
         made[1 + place] = product(shape.p, factor, one[1 + (place + by) % shape.n]);
     if (how % 2 == 0)
-        append(book, made, RECORD);
+        append(book, made, record_len);
     else
-        memcpy(record(book, how / 8), made, RECORD);
+        memcpy(record(book, how / 8), made, record_len);
+}
+
+/* What the two forms bring: the byte 3 of the other form, or of neither, its length, its kind, its s. And faults where the form has its parts: any p,
+ * a place from n on, I or D too large, a generator and a dual word that are none. */
+enum { SORTS_OF_FORM = 10 };
+static void change_form(struct bytes *book, size_t from, unsigned how)
+{
+    static const uint8_t zeros[MOST_BOOK];
+    const int own = which_form(book);
+    const struct form *form = &forms[own], *other = &forms[1 - own];
+    const size_t len = other->records + other->record * (1 + from % 32), n = shape_of(book).n;
+    uint8_t *kind = record(book, (unsigned)from), *body = kind == NULL || from % 2 == 0 ? book->at + AT_G : kind + 1;
+    switch (how % SORTS_OF_FORM) {
+    case 0:
+        book->at[AT_FORM] = other->generator;
+        break;
+    case 1:
+        book->at[AT_FORM] = (uint8_t)(from % 2 == 0 ? form->dual_word : from / 2);
+        break;
+    case 2:
+        if (len > book->len)
+            append(book, zeros, len - book->len);
+        book->len = len;
+        break;
+    case 3:
+        if (kind != NULL)
+            *kind = other->dual_word;
+        break;
+    case 4:
+        book->at[AT_S] = (uint8_t)(other->least_s + from % (other->most_s - other->least_s + 1));
+        break;
+    case 5:
+        book->at[AT_P] = (uint8_t)(how / SORTS_OF_FORM % 10);
+        break;
+    case 6:
+        if (n + 1 < form->record)
+            body[n + from / 2 % (form->record - 1 - n)] = 1;
+        break;
+    case 7:
+        if (book->len > form->d)
+            book->at[from % 2 == 0 ? form->i : form->d] = (uint8_t)(from % 3 == 0 ? 0 : n + 1);
+        break;
+    case 8:
+        book->at[AT_G] ^= 1;
+        break;
+    default:
+        if (kind != NULL)
+            kind[1] ^= 1;
+    }
 }
 
 static void edit(struct bytes *book, struct input *input)
 {
     static const uint8_t zeros[256];
-    static const uint8_t marked[] = {0, AT_S, AT_P, 3, AT_G, AT_G + 1, 67, AT_I, AT_D, AT_RECORDS, AT_RECORDS + 1};
-    static const uint8_t values[] = {0, 1, 2, 3, 4, 7, 63, 64};
-    const unsigned sort = next(input) % 11;
+    static const uint8_t values[] = {0, 1, 2, 3, 4, 5, 6, 7, 8, 63, 64, 127, 128, 255};
+    const struct form *form = form_of(book);
+    const size_t marked[] = {0, AT_S, AT_P, AT_FORM, AT_G, AT_G + 1, form->i - 1, form->i, form->d, form->records, form->records + 1};
+    const size_t marks = sizeof marked / sizeof marked[0];
+    const unsigned sort = next(input) % 12;
     const size_t at = next_two(input);
     const uint8_t value = next(input);
     struct shape shape = shape_of(book);
     uint8_t *one = record(book, (unsigned)(at & 255)), *other = record(book, (unsigned)(at >> 8));
-    uint8_t held[RECORD];
+    uint8_t held[MOST_RECORD];
     switch (sort) {
     case 0:
         if (book->len > 0)
@@ -229,8 +312,8 @@ static void edit(struct bytes *book, struct input *input)
             book->at[at % book->len] ^= values[value % sizeof values];
         break;
     case 2:
-        if (book->len > marked[at % sizeof marked])
-            book->at[marked[at % sizeof marked]] = values[value % sizeof values];
+        if (book->len > marked[at % marks])
+            book->at[marked[at % marks]] = values[value % sizeof values];
         break;
     case 3:
         if (value % 2 == 0)
@@ -239,36 +322,39 @@ static void edit(struct bytes *book, struct input *input)
             append(book, zeros, at % sizeof zeros);
         break;
     case 4:
-        if (book->len > AT_RECORDS + RECORD * (size_t)(value % 33))
-            book->len = AT_RECORDS + RECORD * (size_t)(value % 33);
+        if (book->len > form->records + form->record * (size_t)(value % 33))
+            book->len = form->records + form->record * (size_t)(value % 33);
         break;
     case 5: /* other I and D */
-        if (book->len > AT_D) {
-            book->at[AT_I] = (uint8_t)(1 + value % (at & 1 ? 63 : 3));
-            book->at[AT_D] = (uint8_t)(1 + (at >> 8) % shape.n);
+        if (book->len > form->d) {
+            book->at[form->i] = (uint8_t)(1 + value % (at & 1 ? 63 : 3));
+            book->at[form->d] = (uint8_t)(1 + (at >> 8) % shape.n);
         }
         break;
     case 6: /* a dual word added once more */
         if (one != NULL)
-            append(book, one, RECORD);
+            append(book, one, form->record);
         break;
     case 7: /* a dual word in the place of another */
         if (one != NULL)
-            memmove(other, one, RECORD);
+            memmove(other, one, form->record);
         break;
     case 8: /* two dual words exchanged */
         if (one != NULL) {
-            memcpy(held, one, RECORD);
-            memmove(one, other, RECORD);
-            memcpy(other, held, RECORD);
+            memcpy(held, one, form->record);
+            memmove(one, other, form->record);
+            memcpy(other, held, form->record);
         }
         break;
     case 9: /* a copy of a dual word */
         if (one != NULL)
             copy(book, one, at >> 8, value);
         break;
-    default: /* a dual word of another codebook */
-        append(book, record(&shelf[at % books], value), RECORD);
+    case 10: /* a dual word of another codebook */
+        append(book, record(&shelf[at % books], value), form_of(&shelf[at % books])->record);
+        break;
+    default: /* something of the other form */
+        change_form(book, at, value);
     }
 }
 
@@ -317,7 +403,7 @@ static size_t size(size_t exact, struct input *input)
 static size_t message_size(size_t k, struct input *input)
 {
     const size_t choice = next(input);
-    return choice < 176 ? k : choice < 192 ? k + 2 + (choice - 176) * 8 : (choice - 192) % (k + 2);
+    return choice < 176 ? k : choice < 192 ? k + 2 + (choice - 176) * 8 : (choice - 192) * (k + 2) / 64;
 }
 
 /* Makes the bytes as many as the size says. */
@@ -442,6 +528,41 @@ static void print_bytes(const char *what, const uint8_t *bytes, size_t len)
 }
 
 #ifdef FAULTS
+/* The codebook that the library was lent. */
+static const struct bytes *lent_book(void)
+{
+    static struct bytes book;
+    memcpy(book.at, book_area.buffer, book_area.len);
+    book.len = book_area.len;
+    return &book;
+}
+
+/* The faults that the two forms could bring, made of a right result. */
+static uint32_t faulty_forms(const char *fault, uint32_t result)
+{
+    const struct bytes *book = lent_book();
+    const int own = which_form(book), both = fits(&forms[IN_SHORT], book->len) && fits(&forms[IN_LONG], book->len);
+    const uint8_t s = book->at[AT_S], p = book->at[AT_P];
+    const int chosen = book->len > AT_FORM && (book->at[AT_FORM] == 2 || book->at[AT_FORM] == 5);
+    if (strcmp(fault, "length") == 0 && chosen && own == IN_SHORT && both)
+        return 2;
+    if (strcmp(fault, "seven") == 0 && result == 3 && own == IN_SHORT && s == 7)
+        return 4;
+    if (strcmp(fault, "six") == 0 && result == 3 && own == IN_LONG && s == 6)
+        return 4;
+    if (strcmp(fault, "four") == 0 && result == 3 && own == IN_LONG && s == 7 && p == 4)
+        return 4;
+    if (strcmp(fault, "free") == 0 && result == 4 && own == IN_LONG && s == 7)
+        return 5;
+    if (strcmp(fault, "two") == 0 && result == 1 && !chosen && book->len > AT_FORM)
+        return 2;
+    if (strcmp(fault, "one") == 0 && result == 2 && !chosen)
+        return 1;
+    if (strcmp(fault, "largest") == 0 && result != 1 && book->len > 2118)
+        return 1;
+    return result;
+}
+
 /* The faults that a remainder could have, made of a right one. The word without its remainder is a code word. */
 __attribute__((no_sanitize("address"))) static uint32_t faulty_remainder(const char *fault, uint32_t result)
 {
@@ -489,13 +610,10 @@ __attribute__((no_sanitize("address"))) static uint32_t faulty_code(const char *
 {
     volatile uint8_t *first = book_area.buffer, *input = input_area.buffer, *output = output_area.buffer;
     const size_t len = input_area.len;
-    static struct bytes book;
-    struct shape shape;
+    const struct bytes *book = lent_book();
+    const struct shape shape = shape_of(book);
     uint8_t moved[LARGEST] = {0}, word[LARGEST];
     size_t place;
-    memcpy(book.at, book_area.buffer, book_area.len);
-    book.len = book_area.len;
-    shape = shape_of(&book);
     if ((strcmp(fault, "none") == 0 && len == 0) || (strcmp(fault, "longer") == 0 && len == shape.k + 1))
         return 0;
     if ((strcmp(fault, "full") == 0 && len == shape.k) || (strcmp(fault, "short") == 0 && len < shape.k))
@@ -505,7 +623,7 @@ __attribute__((no_sanitize("address"))) static uint32_t faulty_code(const char *
     if (strcmp(fault, "low") == 0) {
         for (place = 0; place < len; place++)
             moved[shape.k - len + place] = input[place];
-        reference_code(book.at, book.len, moved, shape.k, word, shape.n);
+        reference_code(book->at, book->len, moved, shape.k, word, shape.n);
         for (place = 0; place < shape.n; place++)
             output[place] = word[place];
     }
@@ -524,17 +642,15 @@ __attribute__((no_sanitize("address"))) static uint32_t faulty_code(const char *
 /* The faults that condition 8 could have, made of a right result. */
 static uint32_t faulty_copies(const char *fault, uint32_t result)
 {
-    struct bytes book;
-    struct shape shape;
-    size_t count = (book_area.len - AT_RECORDS) / RECORD, place, same = 0;
-    const uint8_t *one = book_area.buffer + AT_RECORDS + 1;
-    if (book_area.len < AT_RECORDS + RECORD || (result != 8 && SHIFTSUM_REFUSAL(result) != 0))
+    const struct bytes *book = lent_book();
+    const struct form *form = form_of(book);
+    const struct shape shape = shape_of(book);
+    size_t count = (book->len - form->records) / form->record, place, same = 0;
+    const uint8_t *one = book->at + form->records + 1;
+    if (result != 8 && SHIFTSUM_REFUSAL(result) != 0)
         return result;
-    memcpy(book.at, book_area.buffer, book_area.len);
-    book.len = book_area.len;
-    shape = shape_of(&book);
     if (result == 8) {
-        const int way = copied(book.at, book.len, shape);
+        const int way = copied(book);
         if (strcmp(fault, "equal") == 0 && way != EQUAL)
             return (uint32_t)count << 8;
         if (strcmp(fault, "turns") == 0 && way == TURNED_AND_SCALED)
@@ -542,7 +658,7 @@ static uint32_t faulty_copies(const char *fault, uint32_t result)
         return result;
     }
     for (place = 0; place < shape.n && count > 1; place++)
-        same += (one[place] == 0) == (one[RECORD + place] == 0);
+        same += (one[place] == 0) == (one[form->record + place] == 0);
     if ((strcmp(fault, "weights") == 0 && count > 1) || (strcmp(fault, "supports") == 0 && same == shape.n))
         return 8;
     return result;
@@ -561,7 +677,7 @@ __attribute__((no_sanitize("address"))) static uint32_t faulty(int which, uint32
     if (which == CODE)
         return result == 0 || result > 8 ? faulty_code(fault, result) : result;
     if (which == CHECK)
-        result = faulty_copies(fault, result);
+        result = faulty_copies(fault, faulty_forms(fault, result));
     if (strcmp(fault, "refusal") == 0 && which == CHECK && result == 7)
         return 8;
     if (strcmp(fault, "count") == 0 && which == CHECK && SHIFTSUM_DUAL_WORDS(result) > 3)
@@ -593,37 +709,74 @@ __attribute__((no_sanitize("address"))) static uint32_t faulty(int which, uint32
 #define faulty(which, result) (result)
 #endif
 
-/* How many calls of each function had each result, for decode the kinds; those of decode that took two rounds or more; those of check with
- * result 8 by the copy that the codebook had; and those of code with an accepted codebook by the length of the message. */
-static unsigned long calls[FUNCTIONS], accepted[FUNCTIONS], refused[FUNCTIONS][256], kinds[128], later[128], copies[UNLIKE + 1], left_out;
-
 /* Where k is 1, one symbol is not short. */
 enum { LENGTH_0, K_IS_1, ONE_SYMBOL, SHORT, FULL, K_AND_1, ABOVE, LENGTHS };
-static unsigned long lengths[LENGTHS][256], every_length;
+
+/* By the form that byte 3 chooses: how many calls of each function had each result, for decode the kinds; those of decode that took two rounds or
+ * more; those of check with result 8 by the copy that the codebook had; and those of code with an accepted codebook by the length of the message. */
+static struct counts {
+    unsigned long calls[FUNCTIONS], accepted[FUNCTIONS], refused[FUNCTIONS][256], kinds[128], later[128], copies[UNLIKE + 1];
+    unsigned long lengths[LENGTHS][256], every_length;
+} counts[FORMS];
+static unsigned long left_out;
+
+/* Checks that were refused for what the two forms bring. */
+enum { OTHERS_LENGTH, OTHERS_BYTE_3, NO_BYTE_3_1, NO_BYTE_3_2, OTHERS_KIND, OTHERS_S, S_7_P, S_8_P, PLACE_127, WAYS };
+static unsigned long ways[WAYS];
 
 /* What libFuzzer takes as new ground beside the branches of this file: results not seen before, by the codebook's s and p. */
 enum { SEEN = 1 << 15 };
 __attribute__((section("__libfuzzer_extra_counters"))) static uint8_t seen[SEEN];
 
+/* In which of these ways a codebook is refused by the number. */
+static void count_ways(unsigned number, const struct bytes *book)
+{
+    const int own = which_form(book);
+    const struct form *form = &forms[own], *other = &forms[1 - own];
+    const uint8_t byte_3 = book->len > AT_FORM ? book->at[AT_FORM] : 0, s = book->at[AT_S];
+    const int chosen = byte_3 == form->generator;
+    size_t at;
+    ways[OTHERS_LENGTH] += number == 1 && chosen && own == IN_LONG && fits(other, book->len);
+    ways[OTHERS_BYTE_3] += number == 1 && chosen && own == IN_SHORT && fits(other, book->len);
+    ways[NO_BYTE_3_1] += number == 1 && !chosen && book->len > AT_FORM;
+    ways[NO_BYTE_3_2] += number == 2 && !chosen;
+    for (at = form->records; number == 2 && chosen && at < book->len; at += form->record)
+        if (book->at[at] == other->dual_word) {
+            ways[OTHERS_KIND]++;
+            break;
+        }
+    ways[OTHERS_S] += number == 3 && s >= other->least_s && s <= other->most_s;
+    ways[S_7_P] += number == 3 && own == IN_LONG && s == 7;
+    ways[S_8_P] += number == 3 && own == IN_LONG && s == 8;
+    for (at = 127; number == 4 && own == IN_LONG && s == 7 && at < LARGEST; at++)
+        if (book->at[AT_G + at] != 0 || book->at[form->records + 1 + at] != 0) {
+            ways[PLACE_127]++;
+            break;
+        }
+}
+
 static void count(int which, uint32_t result, const struct bytes *book)
 {
     const unsigned number = SHIFTSUM_REFUSAL(result), kind = result >> 24 & 127;
+    struct counts *own = &counts[which_form(book)];
     unsigned mark = (unsigned)which;
-    calls[which]++;
+    own->calls[which]++;
     if (number != 0) {
-        refused[which][number]++;
+        own->refused[which][number]++;
         seen[mark * 16 + number % 16] = 1;
+        if (which == CHECK)
+            count_ways(number, book);
         if (which == CHECK && number == 8)
-            copies[copied(book->at, book->len, shape_of(book))]++;
+            own->copies[copied(book)]++;
         return;
     }
-    accepted[which]++;
+    own->accepted[which]++;
     mark = mark * 64 + book->at[AT_S] % 8 * 8 + book->at[AT_P] % 8;
     if (which == DECODE) {
         unsigned rounds = SHIFTSUM_ROUNDS(result), changed = SHIFTSUM_CHANGED(result);
-        kinds[kind]++;
+        own->kinds[kind]++;
         if (rounds > 1)
-            later[kind]++;
+            own->later[kind]++;
         mark = mark * 4 + kind % 4;
         mark = mark * 4 + (rounds < 4 ? rounds : 3);
         mark = mark * 4 + (changed < 4 ? changed : 3);
@@ -701,7 +854,7 @@ static int code_and_read(const struct bytes *book, const struct bytes *message, 
     size_t place;
     if (result != 0 && result < 9)
         return 0;
-    lengths[length_of(message->len, shape.k)][result]++;
+    counts[which_form(book)].lengths[length_of(message->len, shape.k)][result]++;
     if (result != 0)
         return 1;
     word.len = shape.n;
@@ -714,14 +867,14 @@ static int code_and_read(const struct bytes *book, const struct bytes *message, 
     return 1;
 }
 
-/* A message of every length from 0 to k + 1, and again with a word of another size or a bad symbol. The places change, so that a short message often
- * ends where its pages do. */
+/* A message of every length from 0 to k + 1, or of some where they are many, and again with a word of another size or a bad symbol. The places
+ * change, so that a short message often ends where its pages do. */
 static void code_every_length(const struct bytes *book, uint8_t first, unsigned places, struct input *input)
 {
     static struct bytes message, held;
     const struct shape shape = shape_of(book);
     size_t len;
-    for (len = 0; len <= shape.k + 1; len++, places++) {
+    for (len = 0; len <= shape.k + 1; len += shape.k < 63 || len + 1 >= shape.k ? 1 : 1 + draw(input) % (shape.k - len), places++) {
         make_symbols(&message, len, shape.q, 0, input);
         hold(&held, shape.n, first);
         if (!code_and_read(book, &message, &held, places))
@@ -732,7 +885,7 @@ static void code_every_length(const struct bytes *book, uint8_t first, unsigned 
             message.at[draw(input) % len] |= (uint8_t)shape.q;
         code_and_read(book, &message, &held, places);
     }
-    every_length++;
+    counts[which_form(book)].every_length++;
 }
 
 /* Decodes, and again with one error more each time, since the words between few errors and many are the ones that take several rounds. */
@@ -789,90 +942,131 @@ int LLVMFuzzerTestOneInput(const uint8_t *data, size_t len)
 }
 
 /* How often a message of each sort of length had each result that it can have. */
-static void print_lengths(void)
+static void print_lengths(const char *form, const struct counts *own)
 {
     static const char *const names[LENGTHS] = {"length-0", "k-is-1", "one-symbol", "short", "full", "k+1", "above-k+1"};
     static const unsigned numbers[] = {0, 10, 11};
     size_t i;
     int sort;
-    printf("lengths   every-length %lu", every_length);
+    printf("%slengths every-length %lu", form, own->every_length);
     for (sort = 0; sort < LENGTHS; sort++)
         if (sort == LENGTH_0 || sort == K_AND_1 || sort == ABOVE)
-            printf(" %s:9 %lu", names[sort], lengths[sort][9]);
+            printf(" %s:9 %lu", names[sort], own->lengths[sort][9]);
         else
             for (i = 0; i < sizeof numbers / sizeof numbers[0]; i++)
-                printf(" %s:%u %lu", names[sort], numbers[i], lengths[sort][numbers[i]]);
+                printf(" %s:%u %lu", names[sort], numbers[i], own->lengths[sort][numbers[i]]);
     printf("\n");
 }
 
-/* The counts in a table, which the script reads; a dash where a function has no such result. */
-static void print_counts(void)
+/* A line of the table: a dash where a function has no such result. */
+static void print_function(const char *form, const struct counts *own, int which)
 {
     static const char letters[] = "CMSX";
-    unsigned long all = 0;
-    int which, column;
+    int column;
     unsigned number;
-    printf("%-9s %9s %9s", "result", "calls", "accepted");
+    printf("%5s%-9s %9lu %9lu", form, functions[which].name, own->calls[which], own->accepted[which]);
     for (column = 0; column < 4; column++)
-        printf(" %7c", letters[column]);
+        if (which == DECODE)
+            printf(" %7lu", own->kinds[(unsigned)letters[column]]);
+        else
+            printf(" %7s", "-");
     for (number = 1; number <= 12; number++)
-        printf(" %6u", number);
+        if (number <= functions[which].refusals)
+            printf(" %6lu", own->refused[which][number]);
+        else
+            printf(" %6s", "-");
     printf("\n");
-    for (which = 0; which < FUNCTIONS; which++) {
-        all += calls[which];
-        printf("%-9s %9lu %9lu", functions[which].name, calls[which], accepted[which]);
-        for (column = 0; column < 4; column++)
-            if (which == DECODE)
-                printf(" %7lu", kinds[(unsigned)letters[column]]);
-            else
-                printf(" %7s", "-");
-        for (number = 1; number <= 12; number++)
-            if (number <= functions[which].refusals)
-                printf(" %6lu", refused[which][number]);
-            else
-                printf(" %6s", "-");
-        printf("\n");
-    }
-    printf("%-9s %9lu %9s %7s %7lu %7lu %7lu\n", "later", later['M'] + later['S'] + later['X'], "-", "-", later['M'], later['S'], later['X']);
-    printf("copies    equal %lu turned %lu turned-and-scaled %lu\n", copies[EQUAL], copies[TURNED], copies[TURNED_AND_SCALED]);
-    print_lengths();
-    printf("calls: %lu; decodes left out as too slow: %lu\n", all, left_out);
+}
+
+static void print_form(const char *form, const struct counts *own)
+{
+    const unsigned long *later = own->later, *copies = own->copies;
+    int which;
+    for (which = 0; which < FUNCTIONS; which++)
+        print_function(form, own, which);
+    printf("%5s%-9s %9lu %9s %7s", form, "later", later['M'] + later['S'] + later['X'], "-", "-");
+    printf(" %7lu %7lu %7lu\n", later['M'], later['S'], later['X']);
+    printf("%scopies equal %lu turned %lu turned-and-scaled %lu\n", form, copies[EQUAL], copies[TURNED], copies[TURNED_AND_SCALED]);
+    print_lengths(form, own);
+}
+
+/* The counts in tables, which the script reads. */
+static void print_counts(void)
+{
+    static const char *const names[WAYS] = {"long-with-a-short-length:1", "short-with-a-long-length:1", "another-byte-3:1", "another-byte-3:2",
+                                            "kind-of-the-other-form:2", "s-of-the-other-form:3", "another-p-of-s-7:3", "another-p-of-s-8:3",
+                                            "place-127-or-more:4"};
+    unsigned long all = 0;
+    int way, which;
+    printf("%5s%-9s %9s %9s %7s %7s %7s %7s", "", "result", "calls", "accepted", "C", "M", "S", "X");
+    for (which = 1; which <= 12; which++)
+        printf(" %6d", which);
+    printf("\n");
+    print_form("", &counts[IN_SHORT]);
+    print_form("long-", &counts[IN_LONG]);
+    printf("forms");
+    for (way = 0; way < WAYS; way++)
+        printf(" %s %lu", names[way], ways[way]);
+    for (which = 0; which < FUNCTIONS; which++)
+        all += counts[IN_SHORT].calls[which] + counts[IN_LONG].calls[which];
+    printf("\ncalls: %lu; decodes left out as too slow: %lu\n", all, left_out);
     fflush(stdout);
 }
 
-/* An input to start from: no edits or one, the exact sizes, every length of a message, and a code word with none to four errors. */
-static void write_seed(const char *folder, size_t number, const uint8_t *start, size_t start_len, const struct bytes *book, int copied_too)
+/* Writes the parts of an input one after another. */
+static void write_input(const char *folder, size_t number, const struct bytes *parts, size_t count)
 {
-    const uint8_t drawn = (uint8_t)(number / SEEDS_EACH), none[] = {0};
-    /* Edit 9: the copy of a dual word that is added, turned by what is drawn and multiplied so that 1 is at place 0. */
-    const uint8_t added[] = {1, 9, drawn, (uint8_t)(1 + drawn), 4};
-    const uint8_t rest[] = {drawn, drawn, 0, 0, 0, 0, 0, 0, EVERY, drawn, 1, 0, (uint8_t)(drawn % 5 * 8)};
     char name[4096];
     FILE *file;
+    size_t part;
     snprintf(name, sizeof name, "%s/%zu", folder, number);
     file = fopen(name, "wb");
     if (file == NULL)
         stop(name);
-    fwrite(start, 1, start_len, file);
-    fwrite(book->at, 1, book->len, file);
-    fwrite(copied_too ? added : none, 1, copied_too ? sizeof added : sizeof none, file);
-    fwrite(rest, 1, sizeof rest, file);
+    for (part = 0; part < count; part++)
+        fwrite(parts[part].at, 1, parts[part].len, file);
     if (fclose(file) != 0)
         stop(name);
 }
 
-/* For every codebook of the shelf an input that names it, one that has a copy of a dual word added, and for some one that has its bytes. */
+/* An input to start from, with the codebook's edits: the exact sizes, a message of every length or not, and a code word with none to four errors. */
+static void write_seed(const char *folder, size_t number, const struct bytes *book, const struct bytes *edits, int every)
+{
+    static struct bytes parts[3];
+    const uint8_t drawn = (uint8_t)(number / SEEDS_EACH);
+    const uint8_t rest[] = {drawn, drawn, 0, 0, 0, 0, 0, 0, (uint8_t)(every ? EVERY : 0), drawn, 1, 0, (uint8_t)(drawn % 5 * 8)};
+    parts[0] = *book;
+    parts[1] = *edits;
+    memcpy(parts[2].at, rest, sizeof rest);
+    parts[2].len = sizeof rest;
+    write_input(folder, number, parts, 3);
+}
+
+/* For every codebook of the shelf an input that names it, one that has a copy of a dual word added, one that has something of what the two forms
+ * bring, all of it where it is of the long form, and for some one that has its bytes. */
 static void write_seeds(const char *folder)
 {
-    static const struct bytes nothing;
-    size_t number;
+    static struct bytes none = {{0}, 1}, added, form, named, whole;
+    size_t number, sort;
     for (number = 0; number < books; number++) {
         const struct bytes *book = &shelf[number];
-        const uint8_t whole[] = {WHOLE, (uint8_t)(book->len & 255), (uint8_t)(book->len >> 8)}, named[] = {0, (uint8_t)number};
-        write_seed(folder, SEEDS_EACH * number, named, sizeof named, &nothing, 0);
-        write_seed(folder, SEEDS_EACH * number + 1, named, sizeof named, &nothing, 1);
+        const int is_long = which_form(book) == IN_LONG;
+        const uint8_t drawn = (uint8_t)number;
+        size_t seed = SEEDS_EACH * number;
+        named = (struct bytes){{0, drawn}, 2};
+        /* Edit 9: a copy that is turned by what is drawn and multiplied so that 1 is at place 0. */
+        added = (struct bytes){{1, 9, drawn, (uint8_t)(1 + drawn), 4}, 5};
+        write_seed(folder, seed++, &named, &none, 1);
+        write_seed(folder, seed++, &named, &added, !is_long);
+        for (sort = 0; sort < SORTS_OF_FORM; sort++) {
+            form = (struct bytes){{1, 11, drawn, 0, (uint8_t)(sort + SORTS_OF_FORM * (number % 10))}, 5};
+            if (is_long || sort == number % SORTS_OF_FORM)
+                write_seed(folder, seed++, &named, &form, 0);
+        }
+        whole = (struct bytes){{WHOLE, (uint8_t)(book->len & 255), (uint8_t)(book->len >> 8)}, 3};
+        append(&whole, book->at, book->len);
         if (number % 8 == 0)
-            write_seed(folder, SEEDS_EACH * number + 2, whole, sizeof whole, book, 0);
+            write_seed(folder, seed, &whole, &none, 1);
     }
 }
 

@@ -32,7 +32,7 @@ static int stop(const char *why)
 
 static int words(unsigned long count, unsigned long n, unsigned long q, unsigned long most, unsigned long rare)
 {
-    unsigned char word[64];
+    unsigned char word[255];
     if (n < 1 || n > sizeof word || q < 2 || q > 256)
         return 2;
     for (; count > 0; count--) {

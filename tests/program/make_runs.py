@@ -11,9 +11,11 @@ def word(digits, n=None):
 
 
 def book(s, p, g, i, d, dual_words):
-    records = bytes([1, s, p, 2]) + g.ljust(63, b"\0") + bytes([3, i, d])
+    """Of the long form where s is 7 or 8."""
+    width, kinds = (255, b"\5\6") if s in (7, 8) else (63, b"\2\4")
+    records = bytes([1, s, p]) + kinds[:1] + g.ljust(width, b"\0") + bytes([3, i, d])
     for dual_word in dual_words:
-        records += b"\4" + dual_word.ljust(63, b"\0")
+        records += kinds[1:] + dual_word.ljust(width, b"\0")
     return records
 
 
@@ -53,13 +55,33 @@ TWO_63 = [bytes([1] + [0] * (place - 1) + [1]) for place in range(1, 32)]
 FOUR_63 = [bytes([1, 1, 1] + [0] * (place - 3) + [1]) for place in range(3, 35)]
 
 
+# The same for words of 127 and of 255 symbols: 32 dual words, with 1 at place 0 and at one of the places 1 to 32.
+TWO_LONG = [bytes([1] + [0] * (place - 1) + [1]) for place in range(1, 33)]
+
+
 def one_symbol_63(p, dual_words=TWO_63):
     return book(6, p, bytes([1] * 63), 3, 1, dual_words)
 
 
-def wrong(symbol, place, error):
-    """63 times the symbol, with an error at one place."""
-    return with_byte(bytes([symbol] * 63), place, symbol ^ error)
+def one_symbol_long(s, p, dual_words=TWO_LONG):
+    return book(s, p, bytes([1] * (2**s - 1)), 3, 1, dual_words)
+
+
+def all_changed(s, p, place, error):
+    """g is 1 + x, and the dual word has 1 at all places: every check value is the sum of all symbols, and all places are changed by it."""
+    n = 2**s - 1
+    return stdin(book(s, p, word("11"), 3, n, [b"\1" * n]), wrong(0x00, place, error, n), bytes(n))
+
+
+def wrong(symbol, place, error, n=63):
+    """n times the symbol, with an error at one place."""
+    return with_byte(bytes([symbol] * n), place, symbol ^ error)
+
+
+def words_long(n, symbol, error, q):
+    """A code word, two with an error, one with a bad symbol, and one cut short."""
+    bad = with_byte(bytes([symbol] * n), n - 1, q)
+    return (bytes([symbol] * n), wrong(symbol, 5, error, n), wrong(0, n - 1, error, n), bad, bytes([symbol] * (n - 1)))
 
 
 RECORD_A = a()[70:134]
@@ -126,7 +148,43 @@ RUNS = {
     "n_63_p_6": stdin(one_symbol_63(6), *WORDS_63),
     "n_63_32_dual_words": stdin(one_symbol_63(6, FOUR_63), *WORDS_63),
     "n_63_p_1": stdin(one_symbol_63(1), b"\1" * 63, wrong(1, 0, 1), wrong(0, 31, 1), wrong(0, 62, 2), b"\1"),
-    "n_63_all_changed": stdin(book(6, 6, word("11"), 3, 63, [b"\1" * 63]), wrong(0x00, 17, 0x2A), bytes(63)),
+    "n_63_all_changed": all_changed(6, 6, 17, 0x2A),
+    # Words of 127 and of 255 symbols, and codebooks of 8454 bytes.
+    "n_127": stdin(one_symbol_long(7, 1), *words_long(127, 1, 1, 2)),
+    "n_255_p_1": stdin(one_symbol_long(8, 1), *words_long(255, 1, 1, 2)),
+    "n_255_p_2": stdin(one_symbol_long(8, 2), *words_long(255, 3, 2, 4)),
+    "n_255_p_4": stdin(one_symbol_long(8, 4), *words_long(255, 13, 6, 16)),
+    "n_127_all_changed": all_changed(7, 1, 17, 1),
+    "n_255_all_changed": all_changed(8, 4, 254, 0xD),
+    # The form is chosen by byte 3: 518 bytes are of both forms, 134 and 2310 of one.
+    "form_short_518": stdin(one_symbol_63(6, TWO_63[:7]), *WORDS_63),
+    "form_long_518": stdin(one_symbol_long(8, 4, TWO_LONG[:1]), bytes([9] * 255), bytes(254)),
+    "form_short_518_byte_3_5": stdin(with_byte(one_symbol_63(6, TWO_63[:7]), 3, 5), *WORDS_63),
+    "form_long_518_byte_3_2": stdin(with_byte(one_symbol_long(8, 4, TWO_LONG[:1]), 3, 2), bytes(255)),
+    "form_134_byte_3_5": stdin(with_byte(a(), 3, 5), *EXAMPLE),
+    "form_134_byte_3_9": stdin(with_byte(a(), 3, 9), *EXAMPLE),
+    "form_133_byte_3_9": stdin(with_byte(a(), 3, 9)[:133], *EXAMPLE),
+    "form_2310": stdin(one_symbol_long(8, 1, TWO_LONG[:8]), bytes(255)),
+    "form_2310_byte_3_9": stdin(with_byte(one_symbol_long(8, 1, TWO_LONG[:8]), 3, 9), bytes(255)),
+    "form_2310_byte_3_2": stdin(with_byte(one_symbol_long(8, 1, TWO_LONG[:8]), 3, 2), bytes(255)),
+    "form_3_bytes": stdin(a()[:3], *EXAMPLE),
+    "length_8453": stdin(one_symbol_long(8, 1)[:8453], bytes(255)),
+    "length_8455": stdin(one_symbol_long(8, 1) + b"\0", bytes(255)),
+    "length_8710": stdin(one_symbol_long(8, 1, TWO_LONG + [TWO_LONG[0]]), bytes(255)),
+    "length_8454_of_8453_too": length(8454) + one_symbol_long(8, 1)[:8453],
+    # What a codebook of the long form is refused by.
+    "long_refusal_2": stdin(with_byte(one_symbol_long(7, 1), 262, 4), bytes(127)),
+    "long_refusal_3_s_6": stdin(with_byte(one_symbol_long(7, 1), 1, 6), bytes(127)),
+    "long_refusal_3_s_7_p_4": stdin(with_byte(one_symbol_long(7, 1), 2, 4), bytes(127)),
+    "long_refusal_3_s_8_p_3": stdin(with_byte(one_symbol_long(8, 1), 2, 3), bytes(255)),
+    "long_refusal_4_place_127": stdin(with_byte(one_symbol_long(7, 1), 263 + 127, 1), bytes(127)),
+    "long_refusal_4_place_254": stdin(with_byte(one_symbol_long(7, 1), 4 + 254, 1), bytes(127)),
+    "long_refusal_5": stdin(with_byte(one_symbol_long(7, 1), 4 + 126, 0), bytes(127)),
+    "long_refusal_6": stdin(with_byte(one_symbol_long(7, 1), 261, 128), bytes(127)),
+    "long_refusal_7": stdin(with_byte(one_symbol_long(7, 1), 263 + 126, 1), bytes(127)),
+    "long_refusal_8": stdin(one_symbol_long(8, 4, [TWO_LONG[0]] * 32), bytes(255)),
+    "short_refusal_3_s_7": stdin(with_byte(a(), 1, 7), *EXAMPLE),
+    "short_refusal_3_s_8": stdin(with_byte(a(), 1, 8), *EXAMPLE),
 }
 
 for name, data in RUNS.items():

@@ -1,12 +1,13 @@
 /*
- * How much stack the library takes, against the header's SHIFTSUM_STACK.
+ * How much stack the library takes, against the header's SHIFTSUM_STACK for codebooks of the short form and SHIFTSUM_STACK_LONG for those of the long
+ * one.
  *
  * Each call is made in a thread whose stack was filled with a pattern; the lowest byte that lost it tells how far the stack was used. What a thread
  * takes that calls a function with an empty body is taken off. Below the stack lies memory that may not be touched. The first call of all has the
  * dynamic linker on its stack too, which then looks for the C library's memcpy and the like.
  *
- * The books ask most: `large` has n 63, q 64 and 32 dual words of weight 63; `long_run` makes all 63 rounds, in case rounds are nested calls; `late`
- * is refused by the last number there is for a book.
+ * The books ask most: `large` has n 63, q 64 and 32 dual words of weight 63, in the long form n 255, q 16 and 32 of weight 255; `run` makes all 63
+ * rounds, in case rounds are nested calls; `late` is refused by the last number there is for a book.
  */
 #define _DEFAULT_SOURCE
 #include "shiftsum.h"
@@ -16,17 +17,26 @@
 #include <string.h>
 #include <sys/mman.h>
 
-enum { N = 63, K = 60, RECORD = 64, DUAL_WORDS = 32, LARGE = 70 + RECORD * DUAL_WORDS, SMALL = 70 + RECORD };
-enum { BELOW = 1 << 16, STACK = 1 << 20, PATTERN = 0xa5 };
-enum { AT_S = 1, AT_P = 2, AT_G = 4, AT_I = 68, AT_D = 69, AT_DUAL_WORDS = 70 };
+enum { DUAL_WORDS = 32, BELOW = 1 << 16, STACK = 1 << 20, PATTERN = 0xa5 };
+enum { AT_S = 1, AT_P = 2, AT_G = 4 };
+
+struct book {
+    uint8_t bytes[SHIFTSUM_BOOK_MAX];
+    size_t len, n, k;
+};
+
+/* Where the parts of a codebook lie that are behind the generator. */
+static const struct form {
+    uint8_t generator, dual_word; /* kinds */
+    size_t record, i, d, dual_words;
+} short_form = {2, 4, 64, 68, 69, 70}, long_form = {5, 6, 256, 260, 261, 262};
 
 typedef uint32_t (*function)(const uint8_t *, size_t, const uint8_t *, size_t, uint8_t *, size_t);
 
 struct call {
     const char *name;
     function called;
-    const uint8_t *book;
-    size_t book_len;
+    const struct book *book;
     size_t input_len;
     size_t output_len;
     uint32_t refusal; /* expected */
@@ -34,8 +44,7 @@ struct call {
     uint32_t result;
 };
 
-static uint8_t large[LARGE], late[LARGE], long_run[SMALL];
-static uint8_t input[N], output[N];
+static uint8_t input[SHIFTSUM_WORD_MAX], output[SHIFTSUM_WORD_MAX];
 static unsigned long passed, failed;
 
 static uint32_t check(const uint8_t *book, size_t book_len, const uint8_t *in, size_t in_len, uint8_t *out, size_t out_len)
@@ -54,7 +63,7 @@ static void *run(void *argument)
 {
     struct call *call = argument;
     function volatile called = call->called; /* not to be inlined */
-    call->result = called(call->book, call->book_len, input, call->input_len, output, call->output_len);
+    call->result = called(call->book->bytes, call->book->len, input, call->input_len, output, call->output_len);
     return NULL;
 }
 
@@ -78,31 +87,47 @@ static size_t measure(struct call *call)
     return made ? STACK - untouched : 0;
 }
 
-static void test(struct call call, size_t thread_alone)
+static void test(struct call call)
 {
+    static const struct book none;
+    struct call alone = {"", nothing, &none, 0, 0, 0, 0, 0};
+    const size_t bound = call.book->n <= 63 ? SHIFTSUM_STACK : SHIFTSUM_STACK_LONG, thread_alone = measure(&alone);
     size_t used = measure(&call);
     unsigned refusal, rounds;
     used = used == 0 ? 0 : used - thread_alone;
     refusal = SHIFTSUM_REFUSAL(call.result);
     rounds = refusal == 0 ? SHIFTSUM_ROUNDS(call.result) : 0;
-    printf("%-40s %6zu bytes of stack\n", call.name, used);
-    if (used > 0 && used < SHIFTSUM_STACK && refusal == call.refusal && rounds >= call.rounds) {
+    printf("n %3zu, %-32s %6zu bytes of stack, fewer than %zu\n", call.book->n, call.name, used, bound);
+    if (used > 0 && used < bound && refusal == call.refusal && rounds >= call.rounds) {
         passed++;
         return;
     }
     failed++;
-    printf("failed: %s: refusal %u, rounds %u, the bound is %d\n", call.name, refusal, rounds, SHIFTSUM_STACK);
+    printf("failed: %s: refusal %u, rounds %u\n", call.name, refusal, rounds);
 }
 
-/* Product of GF(64). */
-static unsigned product(unsigned a, unsigned b)
+/* Product of GF(2^p), p 4 or 6. */
+static unsigned field_product(unsigned p, unsigned a, unsigned b)
 {
     unsigned r = 0;
     for (; b != 0; b >>= 1) {
         r ^= b & 1 ? a : 0;
-        a = a << 1 ^ (a & 32 ? 91u : 0);
+        a = a << 1 ^ (a >> (p - 1) & 1 ? (p == 4 ? 19u : 91u) : 0);
     }
     return r;
+}
+
+static unsigned field_inverse(unsigned p, unsigned a)
+{
+    unsigned r = 1, j;
+    for (j = 0; j < (1u << p) - 2; j++)
+        r = field_product(p, r, a);
+    return r;
+}
+
+static unsigned product(unsigned a, unsigned b)
+{
+    return field_product(6, a, b);
 }
 
 static unsigned power(unsigned exponent)
@@ -113,20 +138,26 @@ static unsigned power(unsigned exponent)
     return r;
 }
 
-static unsigned inverse(unsigned a)
+/* The kinds, s, p, I and D, and zeros. */
+static void make_frame(struct book *book, const struct form *form, unsigned s, unsigned p, unsigned places, size_t dual_words)
 {
-    unsigned r = 1, j;
-    for (j = 0; j < 62; j++)
-        r = product(r, a);
-    return r;
+    size_t word;
+    book->len = form->dual_words + form->record * dual_words;
+    book->n = ((size_t)1 << s) - 1;
+    memset(book->bytes, 0, book->len);
+    book->bytes[0] = 1, book->bytes[AT_S] = (uint8_t)s, book->bytes[AT_P] = (uint8_t)p;
+    book->bytes[AT_G - 1] = form->generator;
+    book->bytes[form->i - 1] = 3, book->bytes[form->i] = 63, book->bytes[form->d] = (uint8_t)places;
+    for (word = 0; word < dual_words; word++)
+        book->bytes[form->dual_words + form->record * word] = form->dual_word;
 }
 
 /* The n values of y^2 + y + b at y = z^j, divided by the first; 0 where one of them is zero. */
-static int put_values(uint8_t *body, unsigned b)
+static int put_values(uint8_t *body, size_t n, unsigned b)
 {
     unsigned j;
-    for (j = 0; j < N; j++) {
-        body[j] = (uint8_t)product(inverse(b), power(2 * j % 63) ^ power(j) ^ b);
+    for (j = 0; j < n; j++) {
+        body[j] = (uint8_t)product(field_inverse(6, b), power(2 * j % 63) ^ power(j) ^ b);
         if (body[j] == 0)
             return 0;
     }
@@ -135,70 +166,110 @@ static int put_values(uint8_t *body, unsigned b)
 
 /* The generator's roots are 1, 1 / z and 1 / z^2, so the values of a polynomial of degree 2 at the powers of z are a dual word. Just 32 of the
  * polynomials above have no root; none of their words is a turn or a multiple of another. */
-static void make_large(uint8_t *book)
+static void make_large(struct book *book)
 {
     unsigned r = power(62), t = power(61), b, word = 0;
-    memset(book, 0, LARGE);
-    book[0] = 1, book[AT_S] = 6, book[AT_P] = 6;
-    book[AT_G - 1] = 2, book[AT_G] = (uint8_t)product(r, t), book[AT_G + 1] = (uint8_t)(r ^ t ^ product(r, t));
-    book[AT_G + 2] = (uint8_t)(1 ^ r ^ t), book[AT_G + 3] = 1;
-    book[AT_I - 1] = 3, book[AT_I] = 63, book[AT_D] = 4;
-    for (b = 1; b <= 63 && word < DUAL_WORDS; b++) {
-        uint8_t *record = book + AT_DUAL_WORDS + RECORD * word;
-        record[0] = 4;
-        word += (unsigned)put_values(record + 1, b);
+    uint8_t *g = book->bytes + AT_G;
+    make_frame(book, &short_form, 6, 6, 4, DUAL_WORDS);
+    book->k = book->n - 3;
+    g[0] = (uint8_t)product(r, t), g[1] = (uint8_t)(r ^ t ^ product(r, t)), g[2] = (uint8_t)(1 ^ r ^ t), g[3] = 1;
+    for (b = 1; b <= 63 && word < DUAL_WORDS; b++)
+        word += (unsigned)put_values(book->bytes + short_form.dual_words + short_form.record * word + 1, book->n, b);
+}
+
+/* A stored codebook of the long form, with all 63 rounds allowed. */
+static int read_book(struct book *book, const char *name, size_t k)
+{
+    FILE *file = fopen(name, "rb");
+    if (file == NULL) {
+        printf("failed: no codebook %s\n", name);
+        failed++;
+        return 0;
+    }
+    book->len = fread(book->bytes, 1, sizeof book->bytes, file);
+    fclose(file);
+    book->bytes[long_form.i] = 63;
+    book->n = ((size_t)1 << book->bytes[AT_S]) - 1;
+    book->k = k;
+    return 1;
+}
+
+/* A large one with its first dual word once more as the last, turned by one place and divided by the symbol that comes to place 0. */
+static void make_late(struct book *book, const struct book *large, const struct form *form)
+{
+    const unsigned p = large->bytes[AT_P];
+    const uint8_t *first = book->bytes + form->dual_words + 1;
+    size_t j;
+    *book = *large;
+    for (j = 0; j < book->n; j++)
+        book->bytes[book->len + 1 - form->record + j] = (uint8_t)field_product(p, field_inverse(p, first[1]), first[(j + 1) % book->n]);
+}
+
+/* Symbols 0 and 1, a g whose powers of x are all different, and D n: every round turns all symbols over, and no round reaches a code word. The digits
+ * are those of g. */
+static void make_run(struct book *book, const struct form *form, unsigned s, unsigned digits)
+{
+    uint8_t *body = book->bytes + form->dual_words + 1;
+    unsigned i;
+    size_t j;
+    make_frame(book, form, s, 1, (1u << s) - 1, 1);
+    book->k = book->n - s;
+    for (i = 0; i <= s; i++)
+        book->bytes[AT_G + i] = digits >> i & 1;
+    /* 1 / g, whose symbols repeat after n places: place j is the sum of the places before it that g says. */
+    for (j = 0; j < book->n; j++) {
+        body[j] = j == 0;
+        for (i = 1; i <= s && i <= j; i++)
+            body[j] ^= (uint8_t)((digits >> i & 1) * body[j - i]);
     }
 }
 
-/* The same with its first dual word once more as the last, turned by one place and divided by the symbol that comes to place 0. */
-static void make_late(uint8_t *book)
+/* Every function on a large codebook, on one that is refused late, and on one that takes all rounds. */
+static void test_all(const struct book *large, const struct book *late, const struct book *run_long)
 {
-    const uint8_t *first = book + AT_DUAL_WORDS + 1;
-    uint8_t *last = book + LARGE - N;
-    unsigned j;
-    make_large(book);
-    for (j = 0; j < N; j++)
-        last[j] = (uint8_t)product(inverse(first[1]), first[(j + 1) % N]);
-}
-
-/* n 63 with symbols 0 and 1, g 1 + x + x^6, and D 63: every round turns all symbols over, and no round reaches a code word. */
-static void make_long_run(uint8_t *book)
-{
-    unsigned j;
-    memset(book, 0, SMALL);
-    book[0] = 1, book[AT_S] = 6, book[AT_P] = 1;
-    book[AT_G - 1] = 2, book[AT_G] = 1, book[AT_G + 1] = 1, book[AT_G + 6] = 1;
-    book[AT_I - 1] = 3, book[AT_I] = 63, book[AT_D] = 63;
-    book[AT_DUAL_WORDS] = 4;
-    /* 1 / g, whose symbols repeat after 63 places: place j is the sum of places j - 1 and j - 6. */
-    for (j = 0; j < N; j++) {
-        const uint8_t *body = book + AT_DUAL_WORDS + 1;
-        unsigned before = j == 0 ? 1 : body[j - 1];
-        book[AT_DUAL_WORDS + 1 + j] = (uint8_t)(before ^ (j < 6 ? 0 : body[j - 6]));
-    }
+    const size_t n = large->n, k = large->k;
+    memset(input, 0, sizeof input);
+    input[0] = 1;
+    test((struct call){"check", check, large, 0, 0, 0, 0, 0});
+    test((struct call){"check, refused by 8", check, late, 0, 0, 8, 0, 0});
+    test((struct call){"code", shiftsum_code, large, k, n, 0, 0, 0});
+    test((struct call){"code, one symbol", shiftsum_code, large, 1, n, 0, 0, 0});
+    memset(input, 0, sizeof input);
+    test((struct call){"read", shiftsum_read, large, n, k, 0, 0, 0});
+    input[0] = 1;
+    test((struct call){"read, refused by 12", shiftsum_read, large, n, k, 12, 0, 0});
+    test((struct call){"remainder", shiftsum_remainder, large, n, n - k, 0, 0, 0});
+    test((struct call){"decode, 32 dual words", shiftsum_decode, large, n, n, 0, 1, 0});
+    test((struct call){"decode, refused by 8", shiftsum_decode, late, n, n, 8, 0, 0});
+    test((struct call){"decode, 63 rounds", shiftsum_decode, run_long, run_long->n, run_long->n, 0, 63, 0});
 }
 
 int main(void)
 {
-    struct call alone = {"", nothing, large, sizeof large, 0, 0, 0, 0, 0};
-    size_t thread_alone;
-    make_large(large);
-    make_late(late);
-    make_long_run(long_run);
-    thread_alone = measure(&alone);
-    input[0] = 1;
-    test((struct call){"check, the first call of all", check, large, sizeof large, 0, 0, 0, 0, 0}, thread_alone);
-    test((struct call){"check", check, large, sizeof large, 0, 0, 0, 0, 0}, thread_alone);
-    test((struct call){"check, refused by 8", check, late, sizeof late, 0, 0, 8, 0, 0}, thread_alone);
-    test((struct call){"code", shiftsum_code, large, sizeof large, K, N, 0, 0, 0}, thread_alone);
-    test((struct call){"code, one symbol", shiftsum_code, large, sizeof large, 1, N, 0, 0, 0}, thread_alone);
-    memset(input, 0, sizeof input);
-    test((struct call){"read", shiftsum_read, large, sizeof large, N, K, 0, 0, 0}, thread_alone);
-    input[0] = 1;
-    test((struct call){"read, refused by 12", shiftsum_read, large, sizeof large, N, K, 12, 0, 0}, thread_alone);
-    test((struct call){"remainder", shiftsum_remainder, large, sizeof large, N, N - K, 0, 0, 0}, thread_alone);
-    test((struct call){"decode, 32 dual words", shiftsum_decode, large, sizeof large, N, N, 0, 1, 0}, thread_alone);
-    test((struct call){"decode, 63 rounds", shiftsum_decode, long_run, sizeof long_run, N, N, 0, 63, 0}, thread_alone);
+    static const struct stored {
+        const char *name;
+        size_t k;
+    } stored[] = {{"../books/n127p1.book", 29}, {"../books/n255p1_lines.book", 21}, {"../books/n255p2.book", 21}, {"../books/n255p4.book", 75}};
+    static struct book large, late, run_long;
+    size_t i;
+    make_large(&large);
+    make_late(&late, &large, &short_form);
+    make_run(&run_long, &short_form, 6, 67);
+    test((struct call){"check, the first call of all", check, &large, 0, 0, 0, 0, 0});
+    test_all(&large, &late, &run_long);
+    if (read_book(&large, "../books/n255p4_whole.book", 251)) {
+        make_late(&late, &large, &long_form);
+        make_run(&run_long, &long_form, 8, 285);
+        test_all(&large, &late, &run_long);
+    }
+    make_run(&run_long, &long_form, 7, 131);
+    test((struct call){"decode, 63 rounds", shiftsum_decode, &run_long, run_long.n, run_long.n, 0, 63, 0});
+    for (i = 0; i < sizeof stored / sizeof stored[0]; i++)
+        if (read_book(&large, stored[i].name, stored[i].k)) {
+            test((struct call){"check, stored", check, &large, 0, 0, 0, 0, 0});
+            test((struct call){"read, stored, refused by 12", shiftsum_read, &large, large.n, large.k, 12, 0, 0});
+            test((struct call){"decode, stored", shiftsum_decode, &large, large.n, large.n, 0, 1, 0});
+        }
     printf("%lu passed, %lu failed\n", passed, failed);
     return failed == 0 ? 0 : 1;
 }

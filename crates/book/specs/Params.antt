@@ -3,19 +3,14 @@
 use mathlib.Core.Path.{_≡_}
 use mathlib.Core.Bool.{Bool, _&&_}
 use mathlib.Core.List.{List, [], _∷_}
-use Prim.Native.Nat.{ℕ, suc, _+_, _≤_}
-use lib.Dec.{eqb, leb}
-use Rattle.spec_range.specs.Table.{padded}
+use Prim.Native.Nat.{ℕ, _%_, _≤_}
+use lib.Dec.{leb}
 use Rattle.spec_field.specs.Answer.{Answer, done, refused}
-use Rattle.spec_field.specs.Symbols.{gf}
-use Rattle.spec_word.specs.Word.{at}
-use Rattle.spec_word.specs.Division.{divides}
-use Rattle.spec_word.specs.CyclicCode.{unity}
-use Rattle.word_array.specs.Stored.{place}
+use Rattle.sizes.specs.Blocks.{stride}
 use Rattle.word_table.specs.Multiples.{wordOf, Multiples}
-use Rattle.spec_book.specs.Layout.{width, symbolDigits, wordLength, degreeOf, bookOf}
+use Rattle.spec_book.specs.Layout.{width, generatorAt, bodyPlace, symbolDigits, wordLength, Whole, bookOf}
 use Rattle.spec_book.specs.Conditions.{refusal}
-use Rattle.book_records.specs.Records.{Whole, Readable}
+use Rattle.book_records.specs.Records.{Readable}
 use Rattle.book.specs.declared.Checked.{Checked}
 use Rattle.book.specs.declared.Checked.the-variants.{Accepted, Refused}
 use Rattle.book.specs.declared.Params.{Params}
@@ -30,7 +25,7 @@ pub record Sized (bytes : List ℕ) (n : ℕ) : Type 0 where
   pub whole : Whole bytes
   pub n-is : n ≡ wordLength bytes
   pub n-low : 1 ≤ n
-  pub n-high : n ≤ 63
+  pub n-high : n ≤ width bytes
 
 -- p and n were read off readable bytes
 pub record Read (bytes : List ℕ) (p n : ℕ) : Type 0 where
@@ -40,25 +35,19 @@ pub record Read (bytes : List ℕ) (p n : ℕ) : Type 0 where
 
 -- t is the table of the multiples of the generator in bytes
 pub record Tabulated (bytes : List ℕ) (p n : ℕ) (t : List ℕ) : Type 0 where
-  pub multiples : Multiples 128 p n t
-  pub word : (j : ℕ) → wordOf 128 n t j ≡ at n (padded 63 n (λ j. place bytes (4 + j))) j
+  pub multiples : Multiples (stride n) p n t
+  pub word : (j : ℕ) → wordOf (stride n) n t j ≡ bodyPlace bytes generatorAt (j % n)
 
--- ---- the tests that the code makes of the conditions 5 and 6, each of what it asks alone
-
--- 5, of the coefficients g
-unfoldable pub generatorTest : ℕ → ℕ → (ℕ → ℕ) → Bool
-generatorTest p n g = leb 1 (degreeOf n g) && eqb (g (degreeOf n g)) 1 && divides (gf p) (degreeOf n g) g (suc n) (unity n)
-
--- 6, of I and D
+-- the test that the code makes of condition 6, of I and D
 unfoldable pub limitsTest : ℕ → ℕ → ℕ → Bool
 limitsTest n rounds places = leb 1 rounds && leb rounds 63 && leb 1 places && leb places n
 
 -- c was read off bytes that are accepted
 pub record Describes (bytes : List ℕ) (c : Params) : Type 0 where
-  pub accepted : refusal width bytes ≡ 0
+  pub accepted : refusal bytes ≡ 0
   pub p-is : c .p ≡ symbolDigits bytes
-  pub n-is : c .n ≡ bookOf width bytes .n
-  pub degree-is : c .degree ≡ bookOf width bytes .degree
-  pub rounds-is : c .rounds ≡ bookOf width bytes .most-rounds
-  pub places-is : c .places ≡ bookOf width bytes .most-places
-  pub duals-is : c .duals ≡ bookOf width bytes .dual-count
+  pub n-is : c .n ≡ bookOf bytes .n
+  pub degree-is : c .degree ≡ bookOf bytes .degree
+  pub rounds-is : c .rounds ≡ bookOf bytes .most-rounds
+  pub places-is : c .places ≡ bookOf bytes .most-places
+  pub duals-is : c .duals ≡ bookOf bytes .dual-count

@@ -1,24 +1,26 @@
 // The conditions 5 and 6: the generator, and the limits of decoding.
 ghost use mathlib.Core.Path.{_≡_};
-ghost use Prim.Native.Nat.{ℕ, _<_, _≤_};
-ghost use Rattle.word_array.specs.Stored.{place, Sizes};
-ghost use Rattle.word_table.specs.Multiples.{wordOf, Multiples};
-ghost use Rattle.spec_book.specs.Layout.{degreeOf};
-ghost use Rattle.book.specs.Params.{generatorTest, limitsTest};
-use sizes::Word;
+ghost use Prim.Native.Nat.{_+_, _<_, _≤_};
+ghost use lib.ListN.{length};
+ghost use Rattle.spec_book.specs.Layout.{width, degreeOf, fieldOf, bookOf};
+ghost use Rattle.spec_book.specs.Conditions.{generatorOk};
+ghost use Rattle.book.specs.Params.{limitsTest};
+ghost use Rattle.book.specs.Opened.{Gathered};
+use crate::Params;
+use book_duals::GENERATOR;
 
 // The most rounds that a book may ask for.
 pub const ROUNDS: u8 = 63;
 
-// The highest place below n whose symbol is not zero.
-pub fn degree(n: usize, g: Word) -> usize
-    requires { ⌜ (1 ≤ n) × (n ≤ 63) ⌝ }
-    ensures { λ r. ⌜ (r ≡ degreeOf n (place g)) × (r < n) ⌝ }
+// The highest place below n at which the generator's symbol is not zero.
+pub fn degree(book: &[u8], n: usize) -> usize
+    requires { ⌜ (1 ≤ n) × (n ≤ width (now book)) × (4 + n ≤ length (now book)) ⌝ }
+    ensures { λ r. ⌜ (r ≡ degreeOf n (bookOf (now (book .entry)) .generator)) × (r < n) ⌝ }
 {
     let mut d: usize = 0;
     let mut i = 0;
     while i < n {
-        if g[i] != 0 {
+        if book[GENERATOR + i] != 0 {
             d = i;
         }
         i += 1;
@@ -26,19 +28,20 @@ pub fn degree(n: usize, g: Word) -> usize
     d
 }
 
-// 5: g, of degree d, has leading coefficient 1, degree 1 or more, and divides x^n - 1.
-pub fn generator_ok(p: u8, n: usize, d: usize, g: Word, t: &[u8]) -> bool
-    requires { ⌜ Sizes p n × (d ≡ degreeOf n (place g)) × Multiples 128 p n (now t) × ((j : ℕ) → j < n → wordOf 128 n (now t) j ≡ place g j) ⌝ }
-    ensures { λ r. ⌜ r ≡ generatorTest p n (place g) ⌝ }
+// 5: the generator has degree 1 or more, leading coefficient 1, and divides x^n - 1. t is the table of its multiples.
+pub fn generator_ok(book: &[u8], c: Params, t: &[u8]) -> bool
+    requires { ⌜ Gathered (now book) c (now t) ⌝ }
+    ensures { λ r. ⌜ r ≡ generatorOk (fieldOf (now (book .entry))) (bookOf (now (book .entry))) ⌝ }
 {
+    let d = c.degree;
     if d < 1 {
         return false;
     }
-    let leading = g[d];
+    let leading = book[GENERATOR + d];
     if leading != 1 {
         return false;
     }
-    word_divide::divides_unity(p, n, d, t)
+    word_divide::divides_unity(c.p, c.n, d, t)
 }
 
 // 6: the most rounds from 1 to 63, the most places from 1 to n.

@@ -1,14 +1,15 @@
 // The codebook: its byte layout and the conditions under which it is accepted. The book is read where it lies.
 ghost use mathlib.Core.Path.{_≡_};
+ghost use mathlib.Core.Bool.{false, cond};
 ghost use Prim.Native.Nat.{_*_, _^_, _≤_};
 ghost use lib.ListN.{length};
-ghost use Rattle.spec_book.specs.Layout.{symbolDigits};
+ghost use Rattle.sizes.specs.Blocks.{stride};
+ghost use Rattle.spec_book.specs.Layout.{isLong, symbolDigits, wordLength};
 ghost use Rattle.book_records.specs.Records.{Readable};
 ghost use Rattle.spec_operations.specs.Check.{checkAnswer};
 ghost use Rattle.book.specs.Params.{said};
 ghost use Rattle.book.specs.Opened.{fewSymbols, tableRoom, MatrixSize, Opens};
 use sizes::GENERATOR_AT;
-use sizes::LIMITS_AT;
 
 mod generator;
 mod words;
@@ -45,6 +46,16 @@ pub fn few_symbols(book: &[u8]) -> bool
     sizes::few(book[2])
 }
 
+// Whether the smallest room holds the table of a book's generator.
+fn small_table(book: &[u8]) -> bool
+    ensures { λ r. ⌜ r ≡ cond (isLong (now (book .entry))) false (fewSymbols (now (book .entry))) ⌝ }
+{
+    if book_layout::is_long(book) {
+        return false;
+    }
+    few_symbols(book)
+}
+
 // The size of an accepted book's matrix, known before the book is opened, so that room can be lent. Any other book asks for no more.
 pub fn matrix_size(book: &[u8]) -> usize
     ensures { λ r. ⌜ MatrixSize (now (book .entry)) r ⌝ }
@@ -54,13 +65,26 @@ pub fn matrix_size(book: &[u8]) -> usize
     }
     let s = book[1];
     let p = book[2];
-    if 6 < s {
+    if most_exponent(book) < s {
         return 0;
     }
-    if 6 < p {
+    if most_digits(book) < p {
         return 0;
     }
     sizes::wide(field::order(p)) * book_records::word_length(s)
+}
+
+// The largest s of a book's form, and the largest p.
+fn most_exponent(book: &[u8]) -> u8
+    ensures { λ r. ⌜ r ≡ cond (isLong (now (book .entry))) 8 6 ⌝ }
+{
+    if book_layout::is_long(book) { 8 } else { 6 }
+}
+
+fn most_digits(book: &[u8]) -> u8
+    ensures { λ r. ⌜ r ≡ cond (isLong (now (book .entry))) 4 6 ⌝ }
+{
+    if book_layout::is_long(book) { 4 } else { 6 }
 }
 
 // Opens a book: checks it, and leaves the table of its generator's multiples in t.
@@ -77,22 +101,22 @@ pub fn open(book: &[u8], t: &mut [u8]) -> Opened
 
 // The same where none of the numbers 1 to 4 applies. Everything is read once, and what is read serves the other conditions and the caller.
 fn open_readable(book: &[u8], t: &mut [u8]) -> Opened
-    requires { ⌜ Readable (now book) × (128 * 2 ^ symbolDigits (now book) ≤ length (now t)) ⌝ }
+    requires { ⌜ Readable (now book) × (stride (wordLength (now book)) * 2 ^ symbolDigits (now book) ≤ length (now t)) ⌝ }
     ensures { λ r. ⌜ Opens (now (book .entry)) r (now (t .exit)) × (length (now (t .exit)) ≡ length (now (t .entry))) ⌝ }
 {
     let p = book[2];
     let n = book_records::word_length(book[1]);
-    let g = word_array::load(book, GENERATOR_AT + 1, n);
-    word_table::tabulate(p, n, word_table::widened(n, g), t);
+    word_table::tabulate(p, n, book, GENERATOR_AT + 1, t);
+    let limits = GENERATOR_AT + book_layout::record(book);
     let c = Params {
         p,
         n,
-        degree: generator::degree(n, g),
-        rounds: book[LIMITS_AT + 1],
-        places: sizes::wide(book[LIMITS_AT + 2]),
+        degree: generator::degree(book, n),
+        rounds: book[limits + 1],
+        places: sizes::wide(book[limits + 2]),
         duals: book_records::dual_count(book),
     };
-    let number = words::refusal(book, c, g, t);
+    let number = words::refusal(book, c, t);
     if number != 0 {
         return Opened::Refused(number);
     }
@@ -103,7 +127,7 @@ fn open_readable(book: &[u8], t: &mut [u8]) -> Opened
 pub fn check(book: &[u8]) -> Checked
     ensures { λ r. ⌜ said r ≡ checkAnswer (now (book .entry)) ⌝ }
 {
-    if few_symbols(book) {
+    if small_table(book) {
         let mut t = word_table::few_table_room();
         return check_in(book, &mut t);
     }

@@ -1,46 +1,41 @@
--- The dual words of a book's bytes: as words of n symbols, and loaded with all 63 bytes of their bodies.
+-- The dual words of a book's bytes: as words of n symbols, and where their bodies lie.
 -- Assumes nothing.
-use mathlib.Core.Path.{_≡_, sym, ap, _∙_, fun-ext, subst}
+use mathlib.Core.Path.{_≡_, ap, fun-ext, subst}
 use mathlib.Core.List.{List}
-use Prim.Native.Nat.{ℕ, _%_, _^_, _≤_, _<_}
+use Prim.Native.Nat.{ℕ, _+_, _%_, _^_, _≤_, _<_}
 use native.Mathlib.Nat.{mod-lt}
-use native.Mathlib.Decide.{decLt}
 use native.Mathlib.Omega.{arith}
-use lib.ListN.{List·getD-eq-default}
-use lib.Pow.{pow-pos}
-use Rattle.spec_range.specs.Table.{table, padded}
-use Rattle.spec_range.proofs.Table.{table-length}
-use Rattle.spec_range.proofs.Loop.{padded-reads}
+use lib.ListN.{length}
 use Rattle.spec_field.specs.Symbols.{gf}
-use Rattle.spec_word.specs.Word.{at}
 use Rattle.spec_word.proofs.Place.{Word}
-use Rattle.word_array.specs.Stored.{place, Stored}
-use Rattle.word_array.proofs.Filled.{read-padded}
-use Rattle.spec_book.specs.Layout.{width, dualAt, bodyPlace}
+use Rattle.sizes.specs.Blocks.{span}
+use Rattle.sizes.proofs.Lengths.{blocks-fit}
+use Rattle.word_array.specs.Stored.{place}
+use Rattle.spec_book.specs.Layout.{width, dualAt}
+use Rattle.spec_book.proofs.Accepting.{dual-apart}
 use Rattle.book_duals.specs.Duals.{dualWord, Tested}
 use Rattle.book_duals.proofs.Places.{dual-period}
-
--- the places of an array from the end of what it holds on
-pub padded-past : (size n : ℕ) (f : ℕ → ℕ) → n ≤ size → (k : ℕ) → n ≤ k → place (padded size n f) k ≡ 0
-padded-past size n f h k l = padded-reads size n f h k ∙ List·getD-eq-default (table n f) 0 (omega (arith, table-length n f))
 
 pub dual-word : {bytes : List ℕ} {p n duals : ℕ} → Tested bytes p n duals → (l : ℕ) → l < duals → Word (gf p) n (dualWord n bytes l)
 unfolding dualWord
 dual-word {bytes} {n = n} h l b =
     record {
-      symbol = λ j. h .symbol l (j % n) b (omega (arith, mod-lt j (h .sizes .n-low), h .sizes .n-high));
+      symbol = λ j. h .symbol l (j % n) b (omega (arith, mod-lt j (h .sizes .n-low), blocks-fit (h .sizes .n-high)));
       period = dual-period n bytes l;
     }
 
--- a body, loaded
-module _ (bytes : List ℕ) (l : ℕ) {w : List ℕ} (h : w ≡ padded 64 63 (bodyPlace bytes (dualAt width l))) where
-  pub body-word : (n : ℕ) → 1 ≤ n → n ≤ 63 → at n w ≡ dualWord n bytes l
-  unfolding at dualWord
-  body-word n low high = fun-ext (λ j. read-padded _ h (omega arith) (omega (arith, mod-lt j low)))
+-- its body, where its record starts at `start`
+module _ (bytes : List ℕ) (l : ℕ) {start : ℕ} (e : start ≡ dualAt (width bytes) l) where
+  pub body-word : (n : ℕ) → (λ (j : ℕ). place bytes (start + 1 + j % n)) ≡ dualWord n bytes l
+  unfolding dualWord
+  body-word n = fun-ext (λ j. ap (place bytes) (omega arith))
 
-  pub body-stored : {p n duals : ℕ} → Tested bytes p n duals → l < duals → Stored p 64 w
-  body-stored {p} t b = record { symbol = λ j _. go j (decLt j 63) }
-    where
-      go : (j : ℕ) → Dec (j < 63) → place w j < 2 ^ p
-      go j (yes k) = subst (λ (x : ℕ). x < 2 ^ p) (sym (read-padded _ h (omega arith) k)) (t .symbol l j b k)
-      go j (no k) = subst (λ (x : ℕ). x < 2 ^ p) (sym (ap (λ (v : List ℕ). place v j) h ∙ padded-past 64 63 _ (omega arith) j (omega arith))) (pow-pos p)
+  pub body-start : {duals : ℕ} → dualAt (width bytes) duals ≤ length bytes → l < duals → start + 1 ≤ length bytes
+  body-start room b = omega (arith, dual-apart (width bytes) b)
+
+  pub body-room : (n : ℕ) {duals : ℕ} → dualAt (width bytes) duals ≤ length bytes → span n ≤ 1 + width bytes → l < duals
+      → start + 1 + span n ≤ length bytes + 1
+  body-room n {duals} room spanned b = omega (arith, dual-apart (width bytes) b)
+
+  pub body-symbol : {p n duals : ℕ} → Tested bytes p n duals → l < duals → (j : ℕ) → j + 1 < span n → place bytes (start + 1 + j) < 2 ^ p
+  body-symbol {p} t b j k = subst (λ (i : ℕ). place bytes i < 2 ^ p) (omega arith) (t .symbol l j b k)

@@ -3,13 +3,15 @@
 use mathlib.Core.Path.{_≡_}
 use mathlib.Core.Bool.{Bool, not, _&&_}
 use mathlib.Core.List.{List}
-use Prim.Native.Nat.{ℕ, _+_, _*_, _≤_, _<_}
+use Prim.Native.Nat.{ℕ, _+_, _*_, _^_, _≤_, _<_}
 use lib.Dec.{eqb}
+use lib.ListN.{length}
 use Rattle.spec_range.specs.Fold.{all}
 use Rattle.spec_field.specs.Symbols.{gf}
 use Rattle.spec_word.specs.Word.{nonzero}
 use Rattle.spec_word.specs.Alike.{alike}
-use Rattle.word_array.specs.Stored.{place}
+use Rattle.sizes.specs.Blocks.{span, stride}
+use Rattle.word_array.specs.Stored.{place, Sizes}
 use Rattle.word_table.specs.Multiples.{wordOf, Multiples}
 use Rattle.book_duals.specs.Duals.{dualWord, Tested}
 
@@ -25,8 +27,16 @@ pub record Comparable (bytes : List ℕ) (p n duals : ℕ) : Type 0 where
 
 -- t is the table of the multiples of dual word l
 pub record TableOf (bytes : List ℕ) (p n l : ℕ) (t : List ℕ) : Type 0 where
-  pub multiples : Multiples 128 p n t
-  pub word : wordOf 128 n t ≡ dualWord n bytes l
+  pub multiples : Multiples (stride n) p n t
+  pub word : wordOf (stride n) n t ≡ dualWord n bytes l
+
+-- a word of n symbols lies in the bytes from `from` on, and is compared with that of the table t, which has symbol 1 at place 0
+pub record Pair (p n : ℕ) (bytes : List ℕ) (from : ℕ) (t : List ℕ) : Type 0 where
+  pub sizes : Sizes p n
+  pub room : from + span n ≤ length bytes + 1
+  pub symbol : (j : ℕ) → j + 1 < span n → place bytes (from + j) < 2 ^ p
+  pub multiples : Multiples (stride n) p n t
+  pub first : wordOf (stride n) n t 0 ≡ 1
 
 -- the n places of d from k on are those of t from `from` on
 unfoldable pub sameRow : ℕ → List ℕ → ℕ → List ℕ → ℕ → Bool

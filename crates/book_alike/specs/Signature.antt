@@ -3,14 +3,15 @@
 use mathlib.Core.Path.{_≡_}
 use mathlib.Core.Bool.{Bool}
 use mathlib.Core.List.{List}
-use Prim.Native.Nat.{ℕ, _+_, _*_, _%_, _<_}
+use Prim.Native.Nat.{ℕ, _+_, _*_, _%_, _≤_, _<_}
 use lib.Bits.{bitAnd, bitXor}
 use lib.Dec.{eqb}
 use lib.ListN.{length}
 use mir.Val.{boolByte}
 use Rattle.spec_range.specs.Fold.{total, count}
-use Rattle.spec_word.specs.Word.{at}
+use Rattle.sizes.specs.Blocks.{span}
 use Rattle.word_array.specs.Stored.{place}
+use Rattle.spec_book.specs.Layout.{width, dualAt}
 use Rattle.book_duals.specs.Duals.{dualWord}
 
 -- a number for the outcomes of five tests
@@ -32,16 +33,18 @@ signatureOf n w = total n (λ j. markAt n w j * markAt n w j) % 65536
 unfoldable pub timesOf : List ℕ → ℕ → ℕ
 timesOf s x = count 32 (λ m. eqb (place s m) x)
 
--- the word w of n symbols was laid twice over from place `to` on; the places before it, and the length, are as before
-pub record Twice (n to : ℕ) (w rows₀ rows : List ℕ) : Type 0 where
-  pub long : length rows ≡ length rows₀
-  pub twice : (j : ℕ) → j < n + n → place rows (to + j) ≡ at n w j
-  pub low : (k : ℕ) → k < to → place rows k ≡ place rows₀ k
+-- the bytes have room for the dual words in whole blocks
+pub record Bodies (bytes : List ℕ) (n duals : ℕ) : Type 0 where
+  pub n-low : 1 ≤ n
+  pub n-high : n ≤ 255
+  pub most : duals ≤ 32
+  pub room : dualAt (width bytes) duals ≤ length bytes
+  pub spanned : span n ≤ 1 + width bytes
 
--- k dual words of the bytes, from dual word l on, were laid twice over, in rows of 128 places; the length is as before
-pub record Laid (bytes : List ℕ) (n l k : ℕ) (rows₀ rows : List ℕ) : Type 0 where
+-- k dual words of the bytes, from dual word l on, were laid twice over, in rows of `stride` places; the length is as before
+pub record Rows (stride : ℕ) (bytes : List ℕ) (n l k : ℕ) (rows₀ rows : List ℕ) : Type 0 where
   pub long : length rows ≡ length rows₀
-  pub twice : (i j : ℕ) → i < k → j < n + n → place rows (128 * i + j) ≡ dualWord n bytes (l + i) j
+  pub twice : (i j : ℕ) → i < k → j < n + n → place rows (stride * i + j) ≡ dualWord n bytes (l + i) j
 
 -- s has 32 places, and the signatures of the dual words
 pub record Signed (bytes : List ℕ) (n duals : ℕ) (s : List ℕ) : Type 0 where

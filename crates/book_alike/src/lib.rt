@@ -1,16 +1,12 @@
 // Condition 8: no two dual words of a book are alike. Words that are alike have one signature, and few others do: only words with one signature
 // are compared.
 ghost use mathlib.Core.Path.{_≡_};
-ghost use Prim.Native.Nat.{_+_, _*_, _^_, _≤_};
+ghost use Prim.Native.Nat.{_*_, _^_, _≤_};
 ghost use lib.ListN.{length};
 ghost use Rattle.spec_range.specs.Fold.{all};
-ghost use Rattle.spec_range.specs.Table.{padded};
-ghost use Rattle.spec_book.specs.Layout.{width, dualAt, bodyPlace};
+ghost use Rattle.sizes.specs.Blocks.{stride};
 ghost use Rattle.book_alike.specs.Signature.{Signed};
 ghost use Rattle.book_alike.specs.Compared.{differ, Comparable};
-use sizes::RECORD;
-use sizes::SPAN;
-use sizes::WIDTH;
 
 mod compare;
 mod signature;
@@ -33,7 +29,7 @@ pub fn distinct_ok(p: u8, n: usize, book: &[u8], duals: usize) -> bool
 
 // The same by comparing: no dual word is like one before it.
 fn pairs_ok(p: u8, n: usize, book: &[u8], duals: usize, s: &[u16], t: &mut [u8]) -> bool
-    requires { ⌜ Comparable (now book) p n duals × Signed (now book) n duals (now s) × (128 * 2 ^ p ≤ length (now t)) ⌝ }
+    requires { ⌜ Comparable (now book) p n duals × Signed (now book) n duals (now s) × (stride n * 2 ^ p ≤ length (now t)) ⌝ }
     ensures { λ r. ⌜ r ≡ all duals (differ p n (now (book .entry))) ⌝ }
 {
     let mut l = 0;
@@ -44,19 +40,4 @@ fn pairs_ok(p: u8, n: usize, book: &[u8], duals: usize, s: &[u16], t: &mut [u8])
         l += 1;
     }
     true
-}
-
-// Dual word l, by all bytes of its body.
-pub fn dual(book: &[u8], l: usize) -> [u8; SPAN]
-    requires { ⌜ dualAt width (l + 1) ≤ length (now book) ⌝ }
-    ensures { λ r. ⌜ r ≡ padded 64 63 (bodyPlace (now (book .entry)) (dualAt width l)) ⌝ }
-{
-    let start = book_duals::FIRST_DUAL + RECORD * l;
-    let mut w = [0u8; SPAN];
-    let mut j = 0;
-    while j < WIDTH {
-        w[j] = book[start + j];
-        j += 1;
-    }
-    w
 }

@@ -7,32 +7,30 @@ ghost use lib.Bits.{bitAnd};
 ghost use lib.Dec.{eqb};
 ghost use lib.ListN.{length};
 ghost use Rattle.spec_range.specs.Fold.{total};
-ghost use Rattle.spec_range.specs.Table.{padded};
+ghost use Rattle.spec_range.specs.Table.{table, padded};
+ghost use Rattle.sizes.specs.Blocks.{stride};
 ghost use Rattle.word_array.specs.Stored.{place};
 ghost use Rattle.word_table.specs.Window.{Window};
-ghost use Rattle.spec_book.specs.Layout.{width, dualAt};
-ghost use Rattle.book_alike.specs.Signature.{markOf, markAt, signatureOf, timesOf, Twice, Laid, Signed};
+ghost use Rattle.book_alike.specs.Signature.{markOf, markAt, signatureOf, timesOf, Bodies, Rows, Signed};
+use sizes::BLOCK;
 use sizes::DUALS;
 use sizes::SPAN;
-use sizes::STRIDE;
 
-// How many words are laid out before the first of them is read: to read what was just written, at another place, takes long.
-const AT_ONCE: usize = 8;
-
-// The places of a row for each of them.
+// The places of the rows in which words are laid out before the first of them is read: to read what was just written, at another place, takes long.
 const ROWS: usize = 1024;
 
 // The signatures of the dual words.
 pub fn signatures(n: usize, book: &[u8], duals: usize) -> [u16; DUALS]
-    requires { ⌜ (1 ≤ n) × (n ≤ 63) × (dualAt width duals ≤ length (now book)) × (duals ≤ 32) ⌝ }
+    requires { ⌜ Bodies (now book) n duals ⌝ }
     ensures { λ r. ⌜ Signed (now (book .entry)) n duals r ⌝ }
 {
     let inside = inside(n);
+    let most = ROWS >> sizes::shift(n);
     let mut rows = rows_room();
     let mut out = [0u16; DUALS];
     let mut l = 0;
     while l < duals {
-        let k = sizes::smaller(AT_ONCE, duals - l);
+        let k = sizes::smaller(most, duals - l);
         lay(n, book, l, k, &mut rows);
         sign(n, &rows, k, &inside, l, &mut out);
         l += k;
@@ -49,8 +47,8 @@ fn rows_room() -> [u8; ROWS]
 
 // All digits set at the places below n, none at the others.
 fn inside(n: usize) -> [u8; SPAN]
-    requires { ⌜ n ≤ 63 ⌝ }
-    ensures { λ r. ⌜ r ≡ padded 64 n (λ _. 255) ⌝ }
+    requires { ⌜ n ≤ 255 ⌝ }
+    ensures { λ r. ⌜ r ≡ padded 256 n (λ _. 255) ⌝ }
 {
     let mut out = [0u8; SPAN];
     let mut j = 0;
@@ -63,71 +61,59 @@ fn inside(n: usize) -> [u8; SPAN]
 
 // Lays k dual words out, from dual word l on, each twice over in a row of its own.
 fn lay(n: usize, book: &[u8], l: usize, k: usize, rows: &mut [u8])
-    requires { ⌜ (1 ≤ n) × (n ≤ 63) × (dualAt width (l + k) ≤ length (now book)) × (128 * k ≤ length (now rows)) ⌝ }
-    ensures { λ _. ⌜ Laid (now (book .entry)) n l k (now (rows .entry)) (now (rows .exit)) ⌝ }
+    requires { ⌜ Bodies (now book) n (l + k) × (stride n * k ≤ length (now rows)) ⌝ }
+    ensures { λ _. ⌜ Rows (stride n) (now (book .entry)) n l k (now (rows .entry)) (now (rows .exit)) ⌝ }
 {
+    let stride = 2 * BLOCK * sizes::blocks(n);
     let mut i = 0;
     while i < k {
-        lay_word(n, crate::dual(book, l + i), STRIDE * i, rows);
+        let from = book_layout::dual_at(book, l + i) + 1;
+        word_table::lay(n, book, from, stride * i, rows);
         i += 1;
-    }
-}
-
-// A word of n symbols twice over, from `to` on.
-fn lay_word(n: usize, w: [u8; SPAN], to: usize, rows: &mut [u8])
-    requires { ⌜ (n ≤ 63) × (to + 128 ≤ length (now rows)) ⌝ }
-    ensures { λ _. ⌜ Twice n to w (now (rows .entry)) (now (rows .exit)) ⌝ }
-{
-    put(w, to, rows);
-    put(w, to + n, rows);
-}
-
-// SPAN places, from `to` on.
-fn put(w: [u8; SPAN], to: usize, rows: &mut [u8])
-    requires { ⌜ to + 64 ≤ length (now rows) ⌝ }
-    ensures { λ _. ⌜ Window to 64 (place w) (now (rows .entry)) (now (rows .exit)) ⌝ }
-{
-    let mut j = 0;
-    while j < SPAN {
-        rows[to + j] = w[j];
-        j += 1;
     }
 }
 
 // Stores the signatures of the words of k rows, from place l on.
 fn sign(n: usize, rows: &[u8], k: usize, inside: &[u8], l: usize, out: &mut [u16])
-    requires { ⌜ (n ≤ 63) × (128 * k ≤ length (now rows)) × (now inside ≡ padded 64 n (λ _. 255)) × (l + k ≤ length (now out)) ⌝ }
-    ensures { λ _. ⌜ Window l k (λ i. signatureOf n (λ j. place (now (rows .entry)) (128 * i + j))) (now (out .entry)) (now (out .exit)) ⌝ }
+    requires { ⌜ (n ≤ 255) × (stride n * k ≤ length (now rows)) × (now inside ≡ padded 256 n (λ _. 255)) × (l + k ≤ length (now out)) ⌝ }
+    ensures { λ _. ⌜ Window l k (λ i. signatureOf n (λ j. place (now (rows .entry)) (stride n * i + j))) (now (out .entry)) (now (out .exit)) ⌝ }
 {
+    let blocks = sizes::blocks(n);
     let mut i = 0;
     while i < k {
-        out[l + i] = signature(n, rows, STRIDE * i, inside);
+        out[l + i] = signature(n, blocks, rows, 2 * BLOCK * blocks * i, inside);
         i += 1;
     }
 }
 
-// The signature of the word from `from` on, which stands there twice over.
-fn signature(n: usize, rows: &[u8], from: usize, inside: &[u8]) -> u16
-    requires { ⌜ (n ≤ 63) × (from + 128 ≤ length (now rows)) × (now inside ≡ padded 64 n (λ _. 255)) ⌝ }
+// The signature of the word from `from` on, which stands there twice over: the sum of its blocks.
+fn signature(n: usize, blocks: usize, rows: &[u8], from: usize, inside: &[u8]) -> u16
+    requires { ⌜ (n ≤ 64 * blocks) × (blocks ≤ 4) × (from + 128 * blocks ≤ length (now rows)) × (now inside ≡ padded 256 n (λ _. 255)) ⌝ }
     ensures { λ r. ⌜ r ≡ signatureOf n (λ j. place (now (rows .entry)) (from + j)) ⌝ }
 {
-    let m = marks(n, rows, from, inside);
-    squares(&m)
+    let mut sum: u16 = 0;
+    let mut b = 0;
+    while b < blocks {
+        let m = marks(n, rows, from + BLOCK * b, inside, BLOCK * b);
+        sum = squares(&m, sum);
+        b += 1;
+    }
+    sum
 }
 
-// The marks of the places of a word, and zero from place n on.
-fn marks(n: usize, rows: &[u8], from: usize, inside: &[u8]) -> [u8; SPAN]
-    requires { ⌜ (n ≤ 63) × (from + 128 ≤ length (now rows)) × (length (now inside) ≡ 64) ⌝ }
-    ensures { λ r. ⌜ r ≡ padded 64 64 (λ j. bitAnd (markAt n (λ j. place (now (rows .entry)) (from + j)) j) (place (now (inside .entry)) j)) ⌝ }
+// The marks of the block from `from` on, place `at` of its word; zero where `inside` is.
+fn marks(n: usize, rows: &[u8], from: usize, inside: &[u8], at: usize) -> [u8; BLOCK]
+    requires { ⌜ (from + 128 ≤ length (now rows)) × (at + 64 ≤ length (now inside)) ⌝ }
+    ensures { λ r. ⌜ r ≡ table 64 (λ j. bitAnd (markAt n (λ j. place (now (rows .entry)) (from + j)) j) (place (now (inside .entry)) (at + j))) ⌝ }
 {
     let a = 1 & n;
     let b = 3 & n;
     let c = 7 & n;
     let d = 12 & n;
     let e = 20 & n;
-    let mut out = [0u8; SPAN];
+    let mut out = [0u8; BLOCK];
     let mut j = 0;
-    while j < SPAN {
+    while j < BLOCK {
         let x = rows[from + j];
         let m = mark(
             x == rows[from + (j + a)],
@@ -136,7 +122,7 @@ fn marks(n: usize, rows: &[u8], from: usize, inside: &[u8]) -> [u8; SPAN]
             x == rows[from + (j + d)],
             x == rows[from + (j + e)],
         );
-        out[j] = m & inside[j];
+        out[j] = m & inside[at + j];
         j += 1;
     }
     out
@@ -149,14 +135,14 @@ fn mark(a: bool, b: bool, c: bool, d: bool, e: bool) -> u8
     (a as u8 * 29) ^ (b as u8 * 71) ^ (c as u8 * 167) ^ (d as u8 * 202) ^ (e as u8 * 86)
 }
 
-// The sum of the squares of the marks, in 16 digits, which make the widest vector steps.
-fn squares(m: &[u8]) -> u16
+// Adds the squares of the marks of a block to a sum, in 16 digits, which make the widest vector steps.
+fn squares(m: &[u8], before: u16) -> u16
     requires { ⌜ length (now m) ≡ 64 ⌝ }
-    ensures { λ r. ⌜ r ≡ total 64 (λ j. place (now (m .entry)) j * place (now (m .entry)) j) % 65536 ⌝ }
+    ensures { λ r. ⌜ r ≡ (before + total 64 (λ j. place (now (m .entry)) j * place (now (m .entry)) j)) % 65536 ⌝ }
 {
-    let mut sum: u16 = 0;
+    let mut sum = before;
     let mut j = 0;
-    while j < SPAN {
+    while j < BLOCK {
         let x = m[j] as u32;
         sum = ((sum as u32 + x * x) % 65536) as u16;
         j += 1;

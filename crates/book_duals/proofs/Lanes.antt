@@ -14,7 +14,6 @@ use lib.Pow.{pow-pos}
 use mir.Syntax.{w8}
 use mir.Val.{Fits}
 use Rattle.spec_range.proofs.Table.{table-at, table-length}
-use Rattle.spec_word.specs.Word.{at}
 use Rattle.word_array.specs.Stored.{place}
 use Rattle.book_duals.specs.Lanes.{lane, lanes, lowDigits, otherDigits, doubleAll}
 
@@ -51,11 +50,6 @@ module _ (p i : ℕ) where
       go (no l) =
           List·getD-eq-default (lanes p i t) 0 (omega (arith, table-length (length t) (λ k. lane p i (place t k))))
           ∙ sym (ap (lane p i) (List·getD-eq-default t 0 (omega arith)) ∙ lane-zero)
-
-  -- as a word of n symbols
-  pub lanes-word : (n : ℕ) (w : List ℕ) (j : ℕ) → at n (lanes p i w) j ≡ lane p i (at n w j)
-  unfolding at
-  lanes-word n w j = lanes-at w (j % n)
 
 -- ---- x times all symbols of a byte, as the code has it
 

@@ -1,15 +1,15 @@
 -- Bytes that hold several symbols of p digits: symbol i of a byte, and lists of bytes as lists of their symbols i.
 -- Assumes nothing.
-use mathlib.Core.Path.{_≡_}
 use mathlib.Core.Bool.{cond}
 use mathlib.Core.List.{List}
-use Prim.Native.Nat.{ℕ, _+_, _-_, _*_, _/_, _%_, _^_, _≤_, _<_}
+use Prim.Native.Nat.{ℕ, _+_, _-_, _*_, _/_, _%_, _^_}
 use lib.Bits.{bitXor, bitAnd}
-use lib.Dec.{eqb, ltb}
+use lib.Dec.{eqb}
 use lib.ListN.{length}
+use Rattle.spec_range.specs.Fold.{fold}
 use Rattle.spec_range.specs.Table.{table}
-use Rattle.word_array.specs.Stored.{place, Stored}
-use Rattle.spec_book.specs.Layout.{width, dualAt, bodyPlace}
+use Rattle.word_array.specs.Stored.{place}
+use Rattle.spec_book.specs.Layout.{width, dualAt, byte}
 
 -- symbol i of a byte: the p digits from p * i up
 unfoldable pub lane : ℕ → ℕ → ℕ → ℕ
@@ -31,13 +31,6 @@ otherDigits p = cond (eqb p 2) 85 27
 unfoldable pub doubleAll : ℕ → ℕ → ℕ
 doubleAll p x = bitXor (bitAnd x (otherDigits p) + bitAnd x (otherDigits p)) (bitAnd (x / 2 ^ (p - 1)) (lowDigits p) * 3)
 
--- the first n places of w became f's values; the others, and the length, are as before
-pub record Written (n : ℕ) (f : ℕ → ℕ) (w₀ w : List ℕ) : Type 0 where
-  pub long : length w ≡ length w₀
-  pub at : (j : ℕ) → j < n → place w j ≡ f j
-  pub rest : (j : ℕ) → n ≤ j → place w j ≡ place w₀ j
-
--- w packs the k dual words of the bytes from l on: its other symbols are zero, and it has no digits but those of 8 / p symbols
-pub record Packed (p : ℕ) (bytes : List ℕ) (l k : ℕ) (w : List ℕ) : Type 0 where
-  pub stored : Stored (8 / p * p) 64 w
-  pub symbols : (i j : ℕ) → i < 9 → j < 63 → lane p i (place w j) ≡ cond (ltb i k) (bodyPlace bytes (dualAt width (l + i)) j) 0
+-- place m of the records of the k dual words from l on, packed: the first in the lowest digits
+unfoldable pub packedAt : ℕ → List ℕ → ℕ → ℕ → ℕ → ℕ
+packedAt p bytes l k m = fold bitXor 0 k (λ i. byte bytes (dualAt (width bytes) (l + i) + m) * 2 ^ (p * i) % 256)

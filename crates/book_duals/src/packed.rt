@@ -3,106 +3,165 @@
 ghost use mathlib.Core.Path.{_≡_};
 ghost use Prim.Native.Nat.{ℕ, _+_, _*_, _/_, _%_, _^_, _≤_, _<_};
 ghost use lib.Bits.{bitXor};
-ghost use lib.Dec.{eqb};
 ghost use lib.ListN.{length};
 ghost use Rattle.spec_range.specs.Fold.{all};
-ghost use Rattle.word_array.specs.Stored.{place, Sizes, Stored};
+ghost use Rattle.spec_range.specs.Table.{table};
+ghost use Rattle.sizes.specs.Blocks.{span, stride};
+ghost use Rattle.word_array.specs.Stored.{place, Sizes};
+ghost use Rattle.word_table.specs.Window.{Window};
 ghost use Rattle.word_table.specs.Multiples.{entry, RowPut, Tabled};
-ghost use Rattle.book_duals.specs.Duals.{dualProduct, productOk, Tested};
-ghost use Rattle.book_duals.specs.Lanes.{lanes, lowDigits, otherDigits, doubleAll, Written, Packed};
-use sizes::RECORD;
+ghost use Rattle.spec_book.specs.Layout.{width, dualAt};
+ghost use Rattle.book_duals.specs.Duals.{dualProduct, productOk, Zeros, Tested};
+ghost use Rattle.book_duals.specs.Lanes.{lane, lanes, lowDigits, otherDigits, doubleAll, packedAt};
+use sizes::BLOCK;
 use sizes::SPAN;
-use sizes::STRIDE;
-use sizes::WIDTH;
 
-// Whether all products are zero: those of all dual words are joined, and looked at once.
+// Whether all products are zero. Rooms are small where words are short: to clear more costs time.
 pub fn products_vanish(p: u8, n: usize, book: &[u8], duals: usize) -> bool
     requires { ⌜ Tested (now book) p n duals × (p ≤ 3) ⌝ }
     ensures { λ r. ⌜ r ≡ all duals (productOk p n (now (book .entry))) ⌝ }
 {
-    let most = sizes::wide(8 / p);
-    let mut t = word_table::few_table_room();
+    if n < BLOCK {
+        let mut t = word_table::few_table_room();
+        let mut product = [0u8; BLOCK];
+        let mut left = [0u8; BLOCK];
+        return vanish_in(p, n, book, duals, &mut t, &mut product, &mut left);
+    }
+    let mut t = word_table::table_room();
+    let mut product = [0u8; SPAN];
     let mut left = [0u8; SPAN];
+    vanish_in(p, n, book, duals, &mut t, &mut product, &mut left)
+}
+
+// The same in these rooms: the products of all dual words are joined, and looked at once.
+fn vanish_in(
+    p: u8,
+    n: usize,
+    book: &[u8],
+    duals: usize,
+    t: &mut [u8],
+    product: &mut [u8],
+    left: &mut [u8],
+) -> bool
+    requires { ⌜ Tested (now book) p n duals × (p ≤ 3) × (stride n * 2 ^ p ≤ length (now t)) × (span n ≤ length (now product)) × (span n ≤ length (now left))
+        × ((j : ℕ) → j < n → place (now left) j ≡ 0) ⌝ }
+    ensures { λ r. ⌜ r ≡ all duals (productOk p n (now (book .entry))) ⌝ }
+{
+    let most = sizes::wide(8 / p);
+    let blocks = sizes::blocks(n);
     let mut l = 0;
     while l < duals {
         let k = sizes::smaller(most, duals - l);
-        let product = product_of(p, n, book, l, k, &mut t);
-        crate::join(product, &mut left);
+        product_of(p, n, book, l, k, t, product);
+        crate::join(blocks, product, left);
         l += k;
     }
-    word_array::is_zero(n, &left)
+    word_array::is_zero(n, left)
 }
 
 // The products of the k dual words from l on, packed.
-fn product_of(p: u8, n: usize, book: &[u8], l: usize, k: usize, t: &mut [u8]) -> [u8; SPAN]
-    requires { ⌜ Tested (now book) p n (l + k) × (p ≤ 3) × (k ≤ 8 / p) × (128 * 2 ^ p ≤ length (now t)) ⌝ }
-    ensures { λ r. ⌜ (length (now (t .exit)) ≡ length (now (t .entry))) × ((j : ℕ) → j < n → eqb (place r j) 0
-        ≡ all k (λ i. eqb (dualProduct p n (now (book .entry)) (l + i) j) 0)) ⌝ }
+fn product_of(p: u8, n: usize, book: &[u8], l: usize, k: usize, t: &mut [u8], product: &mut [u8])
+    requires { ⌜ Tested (now book) p n (l + k) × (p ≤ 3) × (k ≤ 8 / p) × (stride n * 2 ^ p ≤ length (now t)) × (span n ≤ length (now product)) ⌝ }
+    ensures { λ _. ⌜ (length (now (t .exit)) ≡ length (now (t .entry))) × (length (now (product .exit)) ≡ length (now (product .entry)))
+        × Zeros n (dualProduct p n (now (book .entry))) l k (now (product .exit)) ⌝ }
 {
-    let w = packed(p, n, book, l, k);
-    multiples(p, n, w, t);
-    word_table::product(n, n, book, crate::GENERATOR, t)
+    packed(p, n, book, l, k, product);
+    multiples(p, n, product, t);
+    word_table::product(n, n, book, crate::GENERATOR, t, product);
 }
 
-// The k dual words from l on, packed: the first in the lowest digits.
-fn packed(p: u8, n: usize, book: &[u8], l: usize, k: usize) -> [u8; SPAN]
-    requires { ⌜ Tested (now book) p n (l + k) × (p ≤ 3) × (k ≤ 8 / p) ⌝ }
-    ensures { λ r. ⌜ Packed p (now (book .entry)) l k r ⌝ }
+// The records of the k dual words from l on, packed: the first in the lowest digits. Their kind bytes come first, so that blocks are whole.
+fn packed(p: u8, n: usize, book: &[u8], l: usize, k: usize, out: &mut [u8])
+    requires { ⌜ Tested (now book) p n (l + k) × (k ≤ 8 / p) × (span n ≤ length (now out)) ⌝ }
+    ensures { λ _. ⌜ Window 0 (span n) (packedAt p (now (book .entry)) l k) (now (out .entry)) (now (out .exit)) ⌝ }
 {
-    let mut out = [0u8; SPAN];
+    let blocks = sizes::blocks(n);
+    let mut b = 0;
+    while b < blocks {
+        let block = packed_block(p, book, l, k, BLOCK * b);
+        word_table::put_block(block, BLOCK * b, out);
+        b += 1;
+    }
+}
+
+// The block of them from place `at` on.
+fn packed_block(p: u8, book: &[u8], l: usize, k: usize, at: usize) -> [u8; BLOCK]
+    requires { ⌜ (1 ≤ p) × (k ≤ 8 / p) × (l + k ≤ 32) × (dualAt (width (now book)) (l + k) ≤ length (now book)) × (at + 64 ≤ 1 + width (now book)) ⌝ }
+    ensures { λ r. ⌜ r ≡ table 64 (λ j. packedAt p (now (book .entry)) l k (at + j)) ⌝ }
+{
+    let mut out = [0u8; BLOCK];
     let mut shift: u8 = 0;
     let mut i = 0;
     while i < k {
-        pack(book, crate::FIRST_DUAL + RECORD * (l + i), shift, &mut out);
+        pack(
+            book,
+            book_layout::dual_at(book, l + i) + at,
+            shift,
+            &mut out,
+        );
         shift += p;
         i += 1;
     }
     out
 }
 
-// Adds the WIDTH bytes from `start` on, shifted up, to a packed word.
-fn pack(book: &[u8], start: usize, shift: u8, out: &mut [u8; SPAN])
-    requires { ⌜ (shift < 8) × (start + 63 ≤ length (now book)) × (length (now out) ≡ 64) ⌝ }
-    ensures { λ _. ⌜ Written 63 (λ j. bitXor (place (now (out .entry)) j) (place (now (book .entry)) (start + j) * 2 ^ shift % 256))
-        (now (out .entry)) (now (out .exit)) ⌝ }
+// Adds the bytes from `start` on, shifted up, to a packed block.
+fn pack(book: &[u8], start: usize, shift: u8, out: &mut [u8; BLOCK])
+    requires { ⌜ (shift < 8) × (start + 64 ≤ length (now book)) × (length (now out) ≡ 64) ⌝ }
+    ensures { λ _. ⌜ now (out .exit) ≡ table 64 (λ j. bitXor (place (now (out .entry)) j) (place (now (book .entry)) (start + j) * 2 ^ shift % 256)) ⌝ }
 {
     let mut j = 0;
-    while j < WIDTH {
+    while j < BLOCK {
         out[j] = out[j] ^ (book[start + j] << shift);
         j += 1;
     }
 }
 
-// Makes the table of the multiples of a packed word: of the multiples of each of its words.
-fn multiples(p: u8, n: usize, w: [u8; SPAN], t: &mut [u8])
-    requires { ⌜ Sizes p n × (p ≤ 3) × Stored (8 / p * p) 64 w × (128 * 2 ^ p ≤ length (now t)) ⌝ }
+// Makes the table of the multiples of a packed word, whose symbols stand after a kind byte: of the multiples of each of its words.
+fn multiples(p: u8, n: usize, w: &[u8], t: &mut [u8])
+    requires { ⌜ Sizes p n × (p ≤ 3) × (span n ≤ length (now w)) × ((j : ℕ) → j + 1 < span n → place (now w) (1 + j) < 2 ^ (8 / p * p))
+        × (stride n * 2 ^ p ≤ length (now t)) ⌝ }
     ensures { λ _. ⌜ (length (now (t .exit)) ≡ length (now (t .entry)))
-        × ((i : ℕ) → i < 9 → Tabled 128 p n (lanes p i w) (lanes p i (now (t .entry))) (lanes p i (now (t .exit)))) ⌝ }
+        × ((i : ℕ) → i < 9 → Tabled (stride n) p n (λ j. lane p i (place (now (w .entry)) (1 + j))) (lanes p i (now (t .entry))) (lanes p i (now (t .exit)))) ⌝ }
 {
-    let d = word_table::doubled(8 / p * p, n, w);
+    let blocks = sizes::blocks(n);
     let q = sizes::wide(field::order(p));
-    word_table::put_first_rows(d, t);
+    word_table::put_first_rows(n, w, 1, t);
     let mut c: usize = 1;
     while 2 * c < q {
-        double_row(p, c, t);
-        word_table::put_next(c, d, t);
+        double_row(p, blocks, c, t);
+        word_table::put_next(blocks, c, t);
         c += 1;
     }
 }
 
-// Row 2c of a table: x times row c. The highest digit of each symbol is taken off, the others go one up, and the polynomial's x + 1 is added where it was set.
-fn double_row(p: u8, c: usize, t: &mut [u8])
-    requires { ⌜ (1 ≤ p) × (p ≤ 3) × (1 ≤ c) × (256 * c + 128 ≤ length (now t)) ⌝ }
-    ensures { λ _. ⌜ RowPut 128 (2 * c) (λ j. doubleAll p (entry 128 (now (t .entry)) c j)) (now (t .entry)) (now (t .exit)) ⌝ }
+// Row 2c of a table: x times row c, block by block.
+fn double_row(p: u8, blocks: usize, c: usize, t: &mut [u8])
+    requires { ⌜ (1 ≤ p) × (p ≤ 3) × (1 ≤ c) × (1 ≤ blocks) × (128 * blocks * (2 * c) + 128 * blocks ≤ length (now t)) ⌝ }
+    ensures { λ _. ⌜ RowPut (128 * blocks) (2 * c) (λ j. doubleAll p (entry (128 * blocks) (now (t .entry)) c j)) (now (t .entry)) (now (t .exit)) ⌝ }
+{
+    let from = 2 * BLOCK * blocks * c;
+    let to = 2 * BLOCK * blocks * (2 * c);
+    let mut b = 0;
+    while b < 2 * blocks {
+        let row = word_table::block(t, from + BLOCK * b);
+        double_block(p, row, to + BLOCK * b, t);
+        b += 1;
+    }
+}
+
+// Writes x times all symbols of a block from `to` on. The highest digit of each is taken off, the others go one up, and the polynomial's x + 1 is added where it
+// was set.
+fn double_block(p: u8, row: [u8; BLOCK], to: usize, t: &mut [u8])
+    requires { ⌜ (1 ≤ p) × (p ≤ 3) × (to + 64 ≤ length (now t)) ⌝ }
+    ensures { λ _. ⌜ Window to 64 (λ j. doubleAll p (place row j)) (now (t .entry)) (now (t .exit)) ⌝ }
 {
     let ones = low_digits(p);
     let others = other_digits(p);
     let up = p - 1;
-    let from = STRIDE * c;
-    let to = STRIDE * (2 * c);
     let mut j = 0;
-    while j < STRIDE {
-        let x = t[from + j];
+    while j < BLOCK {
+        let x = row[j];
         let top = (x >> up) & ones;
         let rest = x & others;
         t[to + j] = (rest + rest) ^ (top * 3);

@@ -44,7 +44,8 @@ fn code_message(c: Params, t: &[u8], message: &[u8], word: &mut [u8]) -> Done
     if number != 0 {
         return Done::Refused(number);
     }
-    let product = word_table::product(n, size, message, 0, t);
+    let mut product = word_divide::quotient_room();
+    word_table::product(n, size, message, 0, t, &mut product);
     word_array::store(&product, word);
     Done::Made
 }
@@ -77,12 +78,12 @@ fn read_word(c: Params, t: &[u8], word: &[u8], message: &mut [u8]) -> Done
     if number != 0 {
         return Done::Refused(number);
     }
-    let parts = word_divide::divide(c.p, n, d, t, word_array::load(word, 0, n));
-    let remainder = parts.remainder;
+    let mut remainder = word_divide::room();
+    let mut quotient = word_divide::quotient_room();
+    word_divide::divide(c.p, n, d, t, word, &mut remainder, &mut quotient);
     if !word_array::is_zero(d, &remainder) {
         return Done::Refused(12);
     }
-    let quotient = parts.quotient;
     word_array::store(&quotient, message);
     Done::Made
 }
@@ -114,9 +115,9 @@ fn remainder_word(c: Params, t: &[u8], word: &[u8], out: &mut [u8]) -> Done
     if number != 0 {
         return Done::Refused(number);
     }
-    let w = word_array::load(word, 0, n);
-    let parts = word_divide::divide(c.p, n, d, t, w);
-    let rest = parts.remainder;
+    let mut rest = word_divide::room();
+    let mut quotient = word_divide::quotient_room();
+    word_divide::divide(c.p, n, d, t, word, &mut rest, &mut quotient);
     word_array::store(&rest, out);
     Done::Made
 }

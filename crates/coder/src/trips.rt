@@ -2,7 +2,7 @@
 ghost use mathlib.Core.Path.{_≡_};
 ghost use lib.ListN.{length};
 ghost use Rattle.spec_book.specs.Book.{messageLength};
-ghost use Rattle.spec_book.specs.Layout.{width, bookOf};
+ghost use Rattle.spec_book.specs.Layout.{bookOf};
 ghost use Rattle.spec_coding.specs.Coder.{writtenOut};
 ghost use Rattle.spec_operations.specs.Wrote.{Wrote};
 ghost use Rattle.spec_operations.specs.Coding.{codeRefusal, coded, readRefusal, messageOf};
@@ -24,8 +24,8 @@ pub fn code_then_read(book: &[u8], message: &[u8], word: &mut [u8], back: &mut [
     ensures { λ r. ⌜ Wrote (readRefusal (now (book .entry)) (now (word .exit)) (length (now (back .entry))))
         (messageOf (now (book .entry)) (now (word .exit))) (now (back .entry)) (said (r .second)) (now (back .exit)) ⌝ }
     ensures { λ r. ⌜ (codeRefusal (now (book .entry)) (now (message .entry)) (length (now (word .entry))) ≡ 0
-        → length (now (back .entry)) ≡ messageLength (bookOf width (now (book .entry)))
-        → GivenBack (said (r .first)) (said (r .second)) (writtenOut (bookOf width (now (book .entry))) (now (message .entry))) (now (back .exit))) ⌝ }
+        → length (now (back .entry)) ≡ messageLength (bookOf (now (book .entry)))
+        → GivenBack (said (r .first)) (said (r .second)) (writtenOut (bookOf (now (book .entry))) (now (message .entry))) (now (back .exit))) ⌝ }
 {
     let first = crate::code(book, message, word);
     let second = crate::read(book, word, back);
@@ -39,7 +39,7 @@ pub fn read_then_code(book: &[u8], word: &[u8], message: &mut [u8], back: &mut [
     ensures { λ r. ⌜ Wrote (codeRefusal (now (book .entry)) (now (message .exit)) (length (now (back .entry))))
         (coded (now (book .entry)) (now (message .exit))) (now (back .entry)) (said (r .second)) (now (back .exit)) ⌝ }
     ensures { λ r. ⌜ (readRefusal (now (book .entry)) (now (word .entry)) (length (now (message .entry))) ≡ 0
-        → length (now (back .entry)) ≡ bookOf width (now (book .entry)) .n
+        → length (now (back .entry)) ≡ bookOf (now (book .entry)) .n
         → GivenBack (said (r .first)) (said (r .second)) (now (word .entry)) (now (back .exit))) ⌝ }
 {
     let first = crate::read(book, word, message);

@@ -1,9 +1,9 @@
 -- The answers of matrix and decode, from what their calls ensure.
 -- Assumes nothing.
 use mathlib.Core.Path.{_≡_, sym, ap, ap₂, _∙_, subst}
-use mathlib.Core.Bool.{Bool, not, _&&_}
+use mathlib.Core.Bool.{Bool, false, not, _&&_}
 use mathlib.Core.List.{List, [], _∷_}
-use Prim.Native.Nat.{ℕ, _+_, _*_, _^_, _<_}
+use Prim.Native.Nat.{ℕ, _≤_, _+_, _*_, _^_, _<_}
 use native.Mathlib.Omega.{arith}
 use lib.Dec.{T, eqb, eqb→eq}
 use lib.ListN.{length}
@@ -13,20 +13,24 @@ use Rattle.spec_range.specs.Table.{table, padded}
 use Rattle.spec_range.proofs.Tests.{and-left, and-right}
 use Rattle.spec_range.proofs.Fold.{fold-cong}
 use Rattle.spec_range.proofs.Table.{table-length, table-at}
-use Rattle.spec_range.proofs.Loop.{padded-at}
 use Rattle.spec_field.specs.Answer.{Answer, answer, done, refused}
 use Rattle.spec_field.proofs.Refusals.{answers-refused, found-first, found-next}
 use Rattle.spec_word.specs.Word.{at, distance}
 use Rattle.spec_word.proofs.Place.{at-table}
+use Rattle.sizes.specs.Blocks.{blocks, span}
+use Rattle.sizes.proofs.Lengths.{blocks-high}
 use Rattle.word_array.specs.Stored.{place, Stored}
-use Rattle.spec_book.specs.Layout.{width, fieldOf, bookOf}
+use Rattle.spec_book.specs.Layout.{isLong, fieldOf, bookOf}
 use Rattle.spec_book.specs.Conditions.{refusal, inputRefusal}
 use Rattle.spec_operations.specs.Wrote.{Wrote}
 use Rattle.spec_operations.proofs.Wrote.{left-refused, left-done}
+use Rattle.spec_book.proofs.Known.{book-sizes, n-word-length}
+use Rattle.book_layout.proofs.Sized.{short-block}
+use Rattle.matrix_terms.specs.Terms.{unlisted}
 use Rattle.spec_book.proofs.Inputs.{AcceptedInput, accepted-input}
 use Rattle.book.specs.Params.{Describes}
 use Rattle.book.specs.declared.Params.{Params}
-use Rattle.book.proofs.Described.{params-sizes, at-listed}
+use Rattle.book.proofs.Described.{at-listed}
 use Rattle.spec_decoding.specs.Matrix.{matrix}
 use Rattle.spec_decoding.specs.Decode as D
 use Rattle.spec_decoding.specs.Decode.{Result, letter}
@@ -35,9 +39,11 @@ use Rattle.spec_decoding.proofs.Outcome.{decode-sound}
 use Rattle.spec_operations.specs.Decoding.{matrixInputRefusal, matrixRefusal, matrixBytes, decodeInputRefusal, decodeRefusal, decodeBytes, values, Decodes}
 use Rattle.decode_rounds.specs.Kind.{kindOf}
 use Rattle.decode.specs.Decoded.{said}
-use Rattle.decode_rounds.specs.Rounds.{listed, Ended}
+use Rattle.decode_rounds.specs.Rounds.{listed, Unlisted, TermsRoom, Ended}
 use Rattle.decode.specs.declared.Decoded.the-variants.{Answered}
 use Rattle.decode_rounds.specs.declared.End.{End}
+use Rattle.decode_rounds.proofs.Stepping.{padded-symbols}
+use Rattle.decode_rounds.proofs.Decoding.{loaded-listed}
 
 -- ---- the refusals, by the parameters that were read off the book
 
@@ -63,22 +69,37 @@ module _ (bytes : List ℕ) (c : Params) (d : Describes bytes c) where
     pub input-size : length received ≡ c .n
     input-size = eqb→eq (length received) (c .n) (input .size)
 
-    module _ (r : List ℕ) (loaded : r ≡ padded 63 (c .n) (λ j. place received (0 + j))) where
-      loaded-at : (j : ℕ) → j < c .n → place r j ≡ place received j
-      loaded-at j l =
-          ap (λ (w : List ℕ). place w j) loaded ∙ padded-at 63 (c .n) _ (params-sizes bytes c d .n-high) l ∙ ap (place received) (omega arith)
+    pub input-stored : Stored (c .p) (c .n) received
+    input-stored = record { symbol = λ j l. input .symbol j (subst (λ (k : ℕ). j < k) (sym input-size) l) }
 
-      pub loaded-stored : Stored (c .p) (c .n) r
-      loaded-stored =
-          record {
-            symbol = λ j l. subst (λ (x : ℕ). x < 2 ^ c .p) (sym (loaded-at j l)) (input .symbol j (subst (λ (k : ℕ). j < k) (sym input-size) l));
-          }
+    pub input-listed : listed bytes received ≡ received
+    input-listed =
+        ext-getD 0 (listed bytes received) received (table-length (bookOf bytes .n) (place received) ∙ sym (d .n-is) ∙ sym input-size) (λ j l.
+        table-at (bookOf bytes .n) (place received) (subst (λ (k : ℕ). j < k) (table-length (bookOf bytes .n) (place received)) l))
 
-      pub loaded-listed : listed bytes r ≡ received
-      loaded-listed =
-          ext-getD 0 (listed bytes r) received (table-length (bookOf width bytes .n) (place r) ∙ sym (d .n-is) ∙ sym input-size) (λ j l.
-          let b : j < bookOf width bytes .n = subst (λ (k : ℕ). j < k) (table-length (bookOf width bytes .n) (place r)) l in
-          table-at (bookOf width bytes .n) (place r) b ∙ loaded-at j (omega (arith, d .n-is)))
+    -- an array that was loaded with the word has symbols only
+    pub loaded-stored : {r : List ℕ} → r ≡ padded 255 (c .n) (λ j. place received (0 + j)) → Stored (c .p) 255 r
+    loaded-stored loaded = padded-symbols loaded (λ j l. subst (λ (k : ℕ). place received k < 2 ^ c .p) (omega arith) (input-stored .symbol j l))
+
+-- ---- rooms for terms
+
+-- the room for short books
+pub short-unlisted : (bytes : List ℕ) → isLong bytes ≡ false → {terms : List ℕ} → (2240 ≡ length terms) × (place terms 0 ≡ 0) → Unlisted bytes terms
+short-unlisted bytes f h =
+    record {
+      long = λ e.
+          let one : blocks (bookOf bytes .n) ≡ 1 = ap blocks (n-word-length bytes e) ∙ short-block bytes (book-sizes bytes e) f in
+          omega (arith, h .0, one);
+      none = h .1;
+    }
+
+-- and that for any
+pub any-unlisted : (bytes : List ℕ) {terms : List ℕ} → (8384 ≡ length terms) × (place terms 0 ≡ 0) → Unlisted bytes terms
+any-unlisted bytes h = record { long = λ e. omega (arith, h .0, blocks-high (bookOf bytes .n)); none = h .1 }
+
+pub listed-room : (bytes : List ℕ) {terms : List ℕ} → Unlisted bytes terms → {c : Params} → Describes bytes c → TermsRoom bytes c terms
+listed-room bytes {terms} h {c} d =
+    record { long = subst (λ (n : ℕ). 192 + span n * 32 ≤ length terms) (sym (d .n-is)) (h .long (d .accepted)); kept = unlisted (h .none) }
 
 -- what the test of both sizes tells
 pub exact-sizes : (room n entries size : ℕ) {exact : Bool} → exact ≡ (eqb room n && eqb entries size) → T exact → (room ≡ n) × (entries ≡ size)
@@ -107,51 +128,51 @@ decodes-same {x = x} {word₀ = word₀} {entries₀ = entries₀} {word = word}
     subst (λ (k : ℕ). Decodes k x word₀ entries₀ a word entries) e h
 
 -- the number of the whole call, where the book was accepted
-module _ (bytes received : List ℕ) {n : ℕ} (e : n ≡ refusal width bytes) (z : n ≡ 0) where
+module _ (bytes received : List ℕ) {n : ℕ} (e : n ≡ refusal bytes) (z : n ≡ 0) where
   pub matrix-accepted : (size : ℕ) → matrixInputRefusal bytes received size ≡ matrixRefusal bytes received size
   unfolding matrixRefusal
-  matrix-accepted size = found-next n (refusal width bytes) (matrixInputRefusal bytes received size) e z
+  matrix-accepted size = found-next n (refusal bytes) (matrixInputRefusal bytes received size) e z
 
   pub decode-accepted : (room size : ℕ) → decodeInputRefusal bytes received room size ≡ decodeRefusal bytes received room size
   unfolding decodeRefusal
-  decode-accepted room size = found-next n (refusal width bytes) (decodeInputRefusal bytes received room size) e z
+  decode-accepted room size = found-next n (refusal bytes) (decodeInputRefusal bytes received room size) e z
 
 -- and where it was not
-module _ (bytes received : List ℕ) {n : ℕ} (e : n ≡ refusal width bytes) (h : n ≡ 0 → ⊥) where
+module _ (bytes received : List ℕ) {n : ℕ} (e : n ≡ refusal bytes) (h : n ≡ 0 → ⊥) where
   pub matrix-refused : (size : ℕ) → n ≡ matrixRefusal bytes received size
   unfolding matrixRefusal
-  matrix-refused size = found-first n (refusal width bytes) (matrixInputRefusal bytes received size) e h
+  matrix-refused size = found-first n (refusal bytes) (matrixInputRefusal bytes received size) e h
 
   pub decode-refused : (room size : ℕ) → n ≡ decodeRefusal bytes received room size
   unfolding decodeRefusal
-  decode-refused room size = found-first n (refusal width bytes) (decodeInputRefusal bytes received room size) e h
+  decode-refused room size = found-first n (refusal bytes) (decodeInputRefusal bytes received room size) e h
 
 -- ---- the answer of a word that is decoded
 
-module _ (bytes : List ℕ) (c : Params) (d : Describes bytes c) (received r : List ℕ) (listed-is : listed bytes r ≡ received)
-    (end : End) (m : List ℕ) (ended : Ended bytes (decodeBytes bytes (listed bytes r)) end m) where
+module _ (bytes : List ℕ) (c : Params) (d : Describes bytes c) (received : List ℕ) (listed-is : listed bytes received ≡ received)
+    (end : End) (m : List ℕ) (ended : Ended bytes (decodeBytes bytes (listed bytes received)) end m) where
   abbrev x : Result
   x = decodeBytes bytes received
 
-  result-is : decodeBytes bytes (listed bytes r) ≡ x
+  result-is : decodeBytes bytes (listed bytes received) ≡ x
   result-is = ap (decodeBytes bytes) listed-is
 
   ended-x : Ended bytes x end m
   ended-x = subst (λ (y : Result). Ended bytes y end m) result-is ended
 
   -- the places where the arrays differ are those where the words do
-  changed-is : distance (c .n) (place (end .word)) (place r) ≡ x .changed
+  changed-is : distance (c .n) (place (end .word)) (place received) ≡ x .changed
   unfolding distance
   changed-is =
-      ap (λ (n : ℕ). distance n (place (end .word)) (place r)) (d .n-is)
-      ∙ (fold-cong _+_ 0 (bookOf width bytes .n) (λ j l.
+      ap (λ (n : ℕ). distance n (place (end .word)) (place received)) (d .n-is)
+      ∙ (fold-cong _+_ 0 (bookOf bytes .n) (λ j l.
       ap₂ (λ (a b : ℕ). indicator (not (eqb a b)))
-      (sym (ap (λ (w : List ℕ). at (bookOf width bytes .n) w j) (sym (ended-x .answer-is)) ∙ at-table (bookOf width bytes .n) (place (end .word)) l))
-      (sym (ap (λ (w : List ℕ). at (bookOf width bytes .n) w j) (sym listed-is) ∙ at-table (bookOf width bytes .n) (place r) l)))
-      ∙ sym (decode-sound (fieldOf bytes) (bookOf width bytes) (matrix (fieldOf bytes) (bookOf width bytes)) (matrix-length (fieldOf bytes) (bookOf width bytes) _) received .changed-is))
+      (sym (ap (λ (w : List ℕ). at (bookOf bytes .n) w j) (sym (ended-x .answer-is)) ∙ at-table (bookOf bytes .n) (place (end .word)) l))
+      (sym (ap (λ (w : List ℕ). at (bookOf bytes .n) w j) (sym listed-is) ∙ at-table (bookOf bytes .n) (place received) l)))
+      ∙ sym (decode-sound (fieldOf bytes) (bookOf bytes) (matrix (fieldOf bytes) (bookOf bytes)) (matrix-length (fieldOf bytes) (bookOf bytes) _) received .changed-is))
 
   pub decodes-done : (number : ℕ) {word₀ entries₀ word : List ℕ} {changed : ℕ} → number ≡ 0 → word ≡ table (c .n) (place (end .word))
-      → changed ≡ distance (c .n) (place (end .word)) (place r)
+      → changed ≡ distance (c .n) (place (end .word)) (place received)
       → Decodes number x word₀ entries₀ (said (Answered (end .kind) (end .rounds) changed)) word m
   decodes-done number {word₀} {entries₀} {word} {changed} z hw hc =
       record {
@@ -165,8 +186,9 @@ module _ (bytes : List ℕ) (c : Params) (d : Describes bytes c) (received r : L
 
 -- ---- the matrix of a word that is not refused
 
-pub matrix-made : (bytes : List ℕ) (c : Params) → Describes bytes c → (received r m : List ℕ) → listed bytes r ≡ received
-    → m ≡ matrix (fieldOf bytes) (bookOf width bytes) (at (c .n) r) → m ≡ matrixBytes bytes received
-matrix-made bytes c d received r m e h =
-    h ∙ ap (λ (n : ℕ). matrix (fieldOf bytes) (bookOf width bytes) (at n r)) (d .n-is)
-    ∙ ap (matrix (fieldOf bytes) (bookOf width bytes)) (sym (at-listed bytes (d .accepted) r) ∙ ap (at (bookOf width bytes .n)) e)
+pub matrix-made : (bytes : List ℕ) (c : Params) → Describes bytes c → (received : List ℕ) {r m : List ℕ} → listed bytes received ≡ received
+    → r ≡ padded 255 (c .n) (λ j. place received (0 + j)) → m ≡ matrix (fieldOf bytes) (bookOf bytes) (at (c .n) r) → m ≡ matrixBytes bytes received
+matrix-made bytes c d received {r} e loaded h =
+    h ∙ ap (λ (n : ℕ). matrix (fieldOf bytes) (bookOf bytes) (at n r)) (d .n-is)
+    ∙ ap (matrix (fieldOf bytes) (bookOf bytes))
+    (sym (at-listed bytes (d .accepted) r) ∙ ap (at (bookOf bytes .n)) (loaded-listed bytes c received d loaded ∙ e))

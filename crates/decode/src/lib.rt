@@ -1,20 +1,22 @@
 // The frequency matrix and the decoder as operations, for all inputs.
 ghost use mathlib.Core.Path.{_≡_};
-ghost use mathlib.Core.Bool.{_&&_};
+ghost use mathlib.Core.Bool.{false, _&&_};
 ghost use Prim.Native.Nat.{_*_, _^_, _≤_};
 ghost use lib.Dec.{eqb};
 ghost use lib.ListN.{length};
+ghost use Rattle.spec_book.specs.Layout.{isLong};
 ghost use Rattle.spec_operations.specs.Wrote.{Wrote};
 ghost use Rattle.spec_operations.specs.Decoding.{matrixInputRefusal, matrixRefusal, matrixBytes, decodeInputRefusal, decodeRefusal, decodeBytes, Decodes};
 ghost use Rattle.refusals.specs.Said as done;
 ghost use Rattle.book.specs.Params.{Tabulated, Describes};
-ghost use Rattle.book.specs.Opened.{tableRoom};
-ghost use Rattle.decode_rounds.specs.Rounds.{TermsRoom};
+ghost use Rattle.book.specs.Opened.{Opens};
+ghost use Rattle.decode_rounds.specs.Rounds.{TermsRoom, Unlisted};
 ghost use Rattle.decode.specs.Decoded.{letterOf, said};
 use book::Opened;
 use book::Params;
 use decode_rounds::Kind;
 use refusals::Done;
+use sizes::LONG_FEW_TABLE;
 
 // Kind, rounds and changed, or the number of the refusal.
 pub enum Decoded {
@@ -36,7 +38,7 @@ pub fn letter(kind: Kind) -> u8
 
 // The size of a matrix, q * n.
 pub fn matrix_size(p: u8, n: usize) -> usize
-    requires { ⌜ (p ≤ 6) × (n ≤ 63) ⌝ }
+    requires { ⌜ (p ≤ 6) × (n ≤ 255) ⌝ }
     ensures { λ r. ⌜ r ≡ 2 ^ p * n ⌝ }
 {
     sizes::wide(field::order(p)) * n
@@ -44,7 +46,7 @@ pub fn matrix_size(p: u8, n: usize) -> usize
 
 // Whether an answer and a matrix have their exact sizes.
 fn exact(p: u8, n: usize, room: usize, entries: usize) -> bool
-    requires { ⌜ (p ≤ 6) × (n ≤ 63) ⌝ }
+    requires { ⌜ (p ≤ 6) × (n ≤ 255) ⌝ }
     ensures { λ r. ⌜ r ≡ (eqb room n && eqb entries (2 ^ p * n)) ⌝ }
 {
     if room != n {
@@ -80,46 +82,84 @@ fn matrix_word(book: &[u8], c: Params, received: &[u8], entries: &mut [u16]) -> 
         return Done::Refused(number);
     }
     let r = word_array::load(received, 0, n);
-    let mut terms = matrix_terms::room();
+    let mut terms = matrix_terms::long_room();
     matrix_terms::list(book, p, n, c.duals, &mut terms);
-    matrix::fill(p, n, c.duals, &terms, r, entries);
+    matrix::fill(p, n, c.duals, &terms, &r, entries);
     Done::Made
 }
 
-// Decode a received word: the answer word, and the matrix of the last round. No room is larger than p asks: to clear it costs time.
+// Decode a received word: the answer word, and the matrix of the last round. No room is larger than the book asks: to clear it costs time.
 pub fn decode(book: &[u8], received: &[u8], answer: &mut [u8], entries: &mut [u16]) -> Decoded
     ensures { λ r. ⌜ Decodes (decodeRefusal (now (book .entry)) (now (received .entry)) (length (now (answer .entry))) (length (now (entries .entry))))
         (decodeBytes (now (book .entry)) (now (received .entry))) (now (answer .entry)) (now (entries .entry)) (said r)
         (now (answer .exit)) (now (entries .exit)) ⌝ }
 {
-    if book::few_symbols(book) {
-        let mut t = word_table::few_table_room();
-        return decode_by(book, received, answer, entries, &mut t);
+    if book_layout::is_long(book) {
+        return decode_long(book, received, answer, entries);
     }
-    let mut t = word_table::table_room();
-    decode_by(book, received, answer, entries, &mut t)
+    decode_short(book, received, answer, entries)
 }
 
-// The same, with room for the table of the generator.
-fn decode_by(
-    book: &[u8],
-    received: &[u8],
-    answer: &mut [u8],
-    entries: &mut [u16],
-    t: &mut [u8],
-) -> Decoded
-    requires { ⌜ tableRoom (now book) ≤ length (now t) ⌝ }
+// The same with room for short books.
+pub fn decode_short(book: &[u8], received: &[u8], answer: &mut [u8], entries: &mut [u16]) -> Decoded
+    requires { ⌜ isLong (now book) ≡ false ⌝ }
     ensures { λ r. ⌜ Decodes (decodeRefusal (now (book .entry)) (now (received .entry)) (length (now (answer .entry))) (length (now (entries .entry))))
         (decodeBytes (now (book .entry)) (now (received .entry))) (now (answer .entry)) (now (entries .entry)) (said r)
         (now (answer .exit)) (now (entries .exit)) ⌝ }
 {
-    let opened = book::open(book, t);
+    let mut terms = matrix_terms::room();
+    if book::few_symbols(book) {
+        let mut t = word_table::few_table_room();
+        let opened = book::open(book, &mut t);
+        return decode_opened(book, opened, &t, &mut terms, received, answer, entries);
+    }
+    let mut t = word_table::table_room();
+    let opened = book::open(book, &mut t);
+    decode_opened(book, opened, &t, &mut terms, received, answer, entries)
+}
+
+// Room for the table of a long book with few symbols.
+fn long_few_table_room() -> [u8; LONG_FEW_TABLE]
+    ensures { λ r. ⌜ 4096 ≡ length r ⌝ }
+{
+    [0; LONG_FEW_TABLE]
+}
+
+// The same with room for any book. It stands apart, so that a short one has no room for a long one on the stack.
+pub fn decode_long(book: &[u8], received: &[u8], answer: &mut [u8], entries: &mut [u16]) -> Decoded
+    ensures { λ r. ⌜ Decodes (decodeRefusal (now (book .entry)) (now (received .entry)) (length (now (answer .entry))) (length (now (entries .entry))))
+        (decodeBytes (now (book .entry)) (now (received .entry))) (now (answer .entry)) (now (entries .entry)) (said r)
+        (now (answer .exit)) (now (entries .exit)) ⌝ }
+{
+    let mut terms = matrix_terms::long_room();
+    if book::few_symbols(book) {
+        let mut t = long_few_table_room();
+        let opened = book::open(book, &mut t);
+        return decode_opened(book, opened, &t, &mut terms, received, answer, entries);
+    }
+    let mut t = word_table::table_room();
+    let opened = book::open(book, &mut t);
+    decode_opened(book, opened, &t, &mut terms, received, answer, entries)
+}
+
+// The same once it is known whether the book is open.
+fn decode_opened(
+    book: &[u8],
+    opened: Opened,
+    t: &[u8],
+    terms: &mut [u16],
+    received: &[u8],
+    answer: &mut [u8],
+    entries: &mut [u16],
+) -> Decoded
+    requires { ⌜ Opens (now book) opened (now t) × Unlisted (now book) (now terms) ⌝ }
+    ensures { λ r. ⌜ Decodes (decodeRefusal (now (book .entry)) (now (received .entry)) (length (now (answer .entry))) (length (now (entries .entry))))
+        (decodeBytes (now (book .entry)) (now (received .entry))) (now (answer .entry)) (now (entries .entry)) (said r)
+        (now (answer .exit)) (now (entries .exit)) ⌝ }
+{
     match opened {
         Opened::Refused(number) => Decoded::Refused(number),
-        Opened::Open(c) => {
-            let mut terms = matrix_terms::room();
-            decode_word(book, c, t, &mut terms, received, answer, entries)
-        }
+        Opened::Open(c) => decode_word(book, c, t, terms, received, answer, entries),
     }
 }
 
@@ -145,12 +185,11 @@ pub fn decode_word(
     if number != 0 {
         return Decoded::Refused(number);
     }
-    let r = word_array::load(received, 0, n);
-    let end = decode_rounds::run(book, c, t, terms, r, entries);
+    let end = decode_rounds::run(book, c, t, terms, received, entries);
     let kind = end.kind;
     let made = end.rounds;
     let word = end.word;
     word_array::store(&word, answer);
-    let changed = word_array::distance(n, word, r);
+    let changed = word_array::distance(n, &word, received);
     Decoded::Answered(kind, made, changed as u8)
 }

@@ -11,7 +11,7 @@ use lib.ListN.{length}
 use Rattle.spec_field.specs.Field.{FieldOps}
 use Rattle.spec_word.specs.Word.{at}
 use Rattle.spec_book.specs.Book.{Book, isCodeWord}
-use Rattle.spec_book.specs.Layout.{width, fieldOf, bookOf}
+use Rattle.spec_book.specs.Layout.{fieldOf, bookOf}
 use Rattle.spec_book.specs.Conditions.{refusal}
 use Rattle.spec_decoding.specs.Matrix.{cell}
 use Rattle.spec_decoding.specs.Decode.{Result, emptyUpdateSet, choose, corrected, result, zeroMatrix, run, stalled, mended}
@@ -23,12 +23,12 @@ use Rattle.spec_book.proofs.Known.{some-rounds}
 use Rattle.book.proofs.Described.{at-listed}
 
 -- with the matrices that `make` makes of a word
-module _ (bytes : List ℕ) (e : refusal width bytes ≡ 0) (make : (ℕ → ℕ) → List ℕ) where
+module _ (bytes : List ℕ) (e : refusal bytes ≡ 0) (make : (ℕ → ℕ) → List ℕ) where
   abbrev F : FieldOps
   F = fieldOf bytes
 
   abbrev B : Book
-  B = bookOf width bytes
+  B = bookOf bytes
 
   -- the run of `left` rounds after k, from the word in an array
   abbrev from : ℕ → ℕ → List ℕ → List ℕ → List ℕ → Result

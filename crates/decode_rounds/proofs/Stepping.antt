@@ -1,75 +1,83 @@
 -- One round, from what its calls ensure.
 -- Assumes nothing.
 use mathlib.Core.Path.{_≡_, refl, sym, ap, ap₂, _∙_, subst}
-use mathlib.Core.Bool.{Bool, true, false, _&&_}
+use mathlib.Core.Bool.{Bool, true, false, cond, _&&_}
 use mathlib.Core.List.{List}
 use Prim.Native.Nat.{ℕ, _*_, _^_, _<_}
+use native.Mathlib.Decide.{decLt}
+use native.Mathlib.Omega.{arith}
+use borrow.Author.Tests.{lt-ltb, le-ltb}
 use lib.Bits.{bitXor}
-use lib.Dec.{eqb}
+use lib.Dec.{eqb, ltb}
 use lib.ListN.{length}
+use lib.Pow.{pow-pos}
 use Rattle.spec_range.specs.Table.{padded}
 use Rattle.spec_range.proofs.Fold.{fold-cong}
-use Rattle.spec_range.proofs.Table.{table-same}
+use Rattle.spec_range.proofs.Table.{table-at, table-same}
 use Rattle.spec_range.proofs.Loop.{padded-at}
 use Rattle.spec_field.specs.Field.{FieldOps}
 use Rattle.spec_field.specs.Symbols.{gf}
 use Rattle.spec_word.specs.Word.{at}
-use Rattle.spec_word.specs.Division.{allZero}
+use Rattle.spec_word.specs.Division.{allZero, divides}
 use Rattle.spec_word.proofs.Place.{at-lt}
+use Rattle.sizes.specs.Blocks.{stride}
 use Rattle.word_array.specs.Stored.{place, Stored}
 use Rattle.word_table.specs.Multiples.{wordOf}
-use Rattle.word_divide.specs.Window.{Remains}
 use Rattle.spec_book.specs.Book.{Book, isCodeWord}
-use Rattle.spec_book.specs.Layout.{width, symbolDigits, fieldOf, bookOf}
+use Rattle.spec_book.specs.Layout.{symbolDigits, fieldOf, bookOf}
 use Rattle.spec_book.specs.Conditions.{refusal}
 use Rattle.spec_book.proofs.Known.{book-laws, n-high}
 use Rattle.book.specs.declared.Params.{Params}
 use Rattle.book.specs.Params.{Tabulated, Describes}
-use Rattle.matrix_terms.specs.Terms.{dualOf, Filling}
 use Rattle.matrix.specs.Fill.{Fillable}
 use Rattle.spec_decoding.specs.Matrix.{cell}
 use Rattle.spec_decoding.specs.Decode.{correction, emptyUpdateSet, corrected}
 use Rattle.spec_decoding.proofs.Update.{correction-below}
 use Rattle.spec_decoding.proofs.Empty.{empty-zero}
-use Rattle.decode_rounds.specs.Rounds.{listed, made, Prepared, stepOf, Stepped}
+use Rattle.decode_rounds.specs.Rounds.{listed, made, stepOf, Stepped}
 use Rattle.decode_rounds.specs.declared.Step.{Step}
 use Rattle.decode_rounds.specs.declared.Step.the-variants.{Empty}
-use Rattle.book.proofs.Described.{at-listed, code-tabulated}
+use Rattle.book.proofs.Described.{at-listed, code-tested}
 
 pub params-fillable : (bytes : List ℕ) (c : Params) → Describes bytes c → Fillable bytes (c .p) (c .n) (c .duals)
 unfolding bookOf
 params-fillable bytes c d = record { accepted = d .accepted; p-is = d .p-is; n-is = d .n-is; duals-is = d .duals-is }
 
--- what the matrix is filled with, and of which word
-pub prepared-filling : {bytes : List ℕ} {c : Params} {t terms w m : List ℕ} → Prepared bytes c t terms → Stored (c .p) (c .n) w → length m ≡ 2 ^ c .p * c .n
-    → Filling 128 (c .p) (c .n) (c .duals) terms w m
-prepared-filling {bytes} h w m = record { words = dualOf bytes; terms-of = h .terms-are; word = w; size = m }
+-- an array that holds symbols below n, and zeros from there on, has symbols only
+pub padded-symbols : {p n : ℕ} {f : ℕ → ℕ} {w : List ℕ} → w ≡ padded 255 n f → ((j : ℕ) → j < n → f j < 2 ^ p) → Stored p 255 w
+unfolding padded
+padded-symbols {p} {n} {f} {w} e h =
+    record { symbol = λ j l. subst (λ (x : ℕ). x < 2 ^ p) (sym (ap (λ (v : List ℕ). place v j) e ∙ table-at 255 _ l)) (below j (decLt j n)) }
+  where
+    below : (j : ℕ) → Dec (j < n) → cond (ltb j n) (f j) 0 < 2 ^ p
+    below j (yes l) = rw (lt-ltb j n l) (h j l)
+    below j (no l) = rw (le-ltb j n (omega arith)) (pow-pos p)
 
 -- with the matrices that `make` makes of a word
-module _ (bytes : List ℕ) (e : refusal width bytes ≡ 0) (make : (ℕ → ℕ) → List ℕ) where
+module _ (bytes : List ℕ) (e : refusal bytes ≡ 0) (make : (ℕ → ℕ) → List ℕ) where
   abbrev F : FieldOps
   F = fieldOf bytes
 
   abbrev B : Book
-  B = bookOf width bytes
+  B = bookOf bytes
 
   -- the matrix m, the corrections v and the corrected word w′ of a word w
-  module _ (w : List ℕ) (stored : Stored (symbolDigits bytes) (B .n) w) (m v w′ : List ℕ) (hm : m ≡ made bytes make w)
-      (hv : v ≡ padded 63 (B .n) (correction F B (cell F B m))) (hw : w′ ≡ padded 63 (B .n) (λ j. bitXor (place w j) (place v j))) where
+  module _ (w : List ℕ) (stored : Stored (symbolDigits bytes) 255 w) (m v w′ : List ℕ) (hm : m ≡ made bytes make w)
+      (hv : v ≡ padded 255 (B .n) (correction F B (cell F B m))) (hw : w′ ≡ padded 255 (B .n) (λ j. bitXor (place w j) (place v j))) where
     correction-at : (j : ℕ) → j < B .n → place v j ≡ correction F B (cell F B (made bytes make w)) j
     correction-at j l =
-        ap (λ (x : List ℕ). place x j) hv ∙ padded-at 63 (B .n) _ (n-high bytes e) l ∙ ap (λ (x : List ℕ). correction F B (cell F B x) j) hm
+        ap (λ (x : List ℕ). place x j) hv ∙ padded-at 255 (B .n) _ (n-high bytes e) l ∙ ap (λ (x : List ℕ). correction F B (cell F B x) j) hm
 
     corrected-at : (j : ℕ) → j < B .n → place w′ j ≡ bitXor (place w j) (correction F B (cell F B (made bytes make w)) j)
     corrected-at j l =
-        ap (λ (x : List ℕ). place x j) hw ∙ padded-at 63 (B .n) _ (n-high bytes e) l ∙ ap (bitXor (place w j)) (correction-at j l)
+        ap (λ (x : List ℕ). place x j) hw ∙ padded-at 255 (B .n) _ (n-high bytes e) l ∙ ap (bitXor (place w j)) (correction-at j l)
 
-    pub corrected-stored : Stored (symbolDigits bytes) (B .n) w′
+    pub corrected-stored : Stored (symbolDigits bytes) 255 w′
     corrected-stored =
-        record {
-          symbol = λ j l. subst (λ (x : ℕ). x < F .q) (sym (corrected-at j l))
-              (book-laws bytes e .add-below _ _ (stored .symbol j l) (correction-below F (book-laws bytes e) B (cell F B (made bytes make w)) j));
-        }
+        padded-symbols hw (λ j l.
+        subst (λ (x : ℕ). bitXor (place w j) x < F .q) (sym (correction-at j l))
+        (book-laws bytes e .add-below _ _ (stored .symbol j (omega (arith, n-high bytes e)))
+        (correction-below F (book-laws bytes e) B (cell F B (made bytes make w)) j)))
 
     pub corrected-listed : listed bytes w′ ≡ corrected F B (listed bytes w) (made bytes make w)
     unfolding corrected
@@ -95,23 +103,23 @@ module _ (bytes : List ℕ) (e : refusal width bytes ≡ 0) (make : (ℕ → ℕ
         }
 
 -- the same, as the calls say it by the parameters c
-module _ (bytes : List ℕ) (make : (ℕ → ℕ) → List ℕ) (c : Params) (w : List ℕ) (d : Describes bytes c) (stored : Stored (c .p) (c .n) w) (m v w′ : List ℕ)
+module _ (bytes : List ℕ) (make : (ℕ → ℕ) → List ℕ) (c : Params) (w : List ℕ) (d : Describes bytes c) (stored : Stored (c .p) 255 w) (m v w′ : List ℕ)
     (hm : m ≡ make (at (c .n) w))
-    (hv : (B : Book) → B .n ≡ c .n → B .most-places ≡ c .places → v ≡ padded 63 (c .n) (correction (gf (c .p)) B (cell (gf (c .p)) B m)))
-    (hw : w′ ≡ padded 63 (c .n) (λ j. bitXor (place w j) (place v j))) where
-  word : Stored (symbolDigits bytes) (bookOf width bytes .n) w
-  word = rw (d .p-is, d .n-is) at stored
+    (hv : (B : Book) → B .n ≡ c .n → B .most-places ≡ c .places → v ≡ padded 255 (c .n) (correction (gf (c .p)) B (cell (gf (c .p)) B m)))
+    (hw : w′ ≡ padded 255 (c .n) (λ j. bitXor (place w j) (place v j))) where
+  word : Stored (symbolDigits bytes) 255 w
+  word = rw (d .p-is) at stored
 
   made-matrix : m ≡ made bytes make w
   made-matrix = rw (d .n-is) at hm
 
-  made-corrections : v ≡ padded 63 (bookOf width bytes .n) (correction (fieldOf bytes) (bookOf width bytes) (cell (fieldOf bytes) (bookOf width bytes) m))
-  made-corrections = rw (d .n-is, d .p-is) at (hv (bookOf width bytes) (sym (d .n-is)) (sym (d .places-is)))
+  made-corrections : v ≡ padded 255 (bookOf bytes .n) (correction (fieldOf bytes) (bookOf bytes) (cell (fieldOf bytes) (bookOf bytes) m))
+  made-corrections = rw (d .n-is, d .p-is) at (hv (bookOf bytes) (sym (d .n-is)) (sym (d .places-is)))
 
-  made-word : w′ ≡ padded 63 (bookOf width bytes .n) (λ j. bitXor (place w j) (place v j))
+  made-word : w′ ≡ padded 255 (bookOf bytes .n) (λ j. bitXor (place w j) (place v j))
   made-word = rw (d .n-is) at hw
 
-  pub round-stored : Stored (symbolDigits bytes) (bookOf width bytes .n) w′
+  pub round-stored : Stored (symbolDigits bytes) 255 w′
   round-stored = corrected-stored bytes (d .accepted) make w word m v w′ made-matrix made-corrections made-word
 
   -- the update set is empty
@@ -119,9 +127,10 @@ module _ (bytes : List ℕ) (make : (ℕ → ℕ) → List ℕ) (c : Params) (w 
   round-empty s p =
       stepped bytes (d .accepted) make w word m v w′ made-matrix made-corrections made-word true _ s (rw (d .n-is) at p) refl
 
-  -- it is not, and the new word was divided
-  pub round-divided : {t rest : List ℕ} → Tabulated bytes (c .p) (c .n) t → Remains (c .p) (c .n) (c .degree) (wordOf 128 (c .n) t) (place w′) rest
-      → {s : Step} → s ≡ stepOf false (allZero (c .degree) rest) → allZero (c .n) v ≡ false → Stepped bytes make w (record { step = s; word = w′ }) m
-  round-divided ht h s p =
+  -- it is not, and the new word was tested
+  pub round-tested : {t : List ℕ} → Tabulated bytes (c .p) (c .n) t → {s : Step}
+      → s ≡ stepOf false (divides (gf (c .p)) (c .degree) (wordOf (stride (c .n)) (c .n) t) (c .n) (place w′)) → allZero (c .n) v ≡ false
+      → Stepped bytes make w (record { step = s; word = w′ }) m
+  round-tested ht s p =
       stepped bytes (d .accepted) make w word m v w′ made-matrix made-corrections made-word false _ s
-      (rw (d .n-is) at p) (sym (code-tabulated bytes c d ht w′ (λ j l. sym (at-lt (c .n) w′ l)) h))
+      (rw (d .n-is) at p) (sym (code-tested bytes c d ht w′ (λ j l. sym (at-lt (c .n) w′ l))))

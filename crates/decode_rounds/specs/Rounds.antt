@@ -3,15 +3,17 @@
 use mathlib.Core.Path.{_≡_}
 use mathlib.Core.Bool.{Bool, true, false}
 use mathlib.Core.List.{List}
-use Prim.Native.Nat.{ℕ, _*_, _^_, _≤_}
+use Prim.Native.Nat.{ℕ, _+_, _*_, _^_, _≤_}
 use lib.ListN.{length}
 use Rattle.spec_range.specs.Table.{table}
 use Rattle.spec_field.specs.Field.{FieldOps}
 use Rattle.spec_word.specs.Word.{at}
 use Rattle.spec_book.specs.Book.{Book, isCodeWord}
-use Rattle.spec_book.specs.Layout.{width, symbolDigits, fieldOf, bookOf}
+use Rattle.spec_book.specs.Conditions.{refusal}
+use Rattle.spec_book.specs.Layout.{symbolDigits, fieldOf, bookOf}
 use Rattle.spec_decoding.specs.Matrix.{cell}
 use Rattle.spec_decoding.specs.Decode.{Result, emptyUpdateSet, corrected, run, zeroMatrix}
+use Rattle.sizes.specs.Blocks.{span, stride}
 use Rattle.word_array.specs.Stored.{place, Stored}
 use Rattle.book.specs.declared.Params.{Params}
 use Rattle.book.specs.Params.{Tabulated, Describes}
@@ -33,7 +35,7 @@ module _ (bytes : List ℕ) where
   F = fieldOf bytes
 
   abbrev B : Book
-  B = bookOf width bytes
+  B = bookOf bytes
 
   -- the n symbols that an array holds
   abbrev pub listed : List ℕ → List ℕ
@@ -43,12 +45,17 @@ module _ (bytes : List ℕ) where
   pub record Prepared (c : Params) (t terms : List ℕ) : Type 0 where
     pub describes : Describes bytes c
     pub table-is : Tabulated bytes (c .p) (c .n) t
-    pub terms-are : TermsOf 128 (c .p) (c .n) (c .duals) (dualOf bytes) terms
+    pub terms-are : TermsOf (stride (c .n)) (c .p) (c .n) (c .duals) (dualOf bytes) terms
 
   -- a room in which the terms of its dual words are listed, or nothing yet
   pub record TermsRoom (c : Params) (terms : List ℕ) : Type 0 where
-    pub long : 2240 ≤ length terms
-    pub kept : Kept 128 (c .p) (c .n) (c .duals) (dualOf bytes) terms
+    pub long : 192 + span (c .n) * 32 ≤ length terms
+    pub kept : Kept (stride (c .n)) (c .p) (c .n) (c .duals) (dualOf bytes) terms
+
+  -- a room in which nothing is listed yet, and which is large enough if the book is accepted
+  pub record Unlisted (terms : List ℕ) : Type 0 where
+    pub long : refusal bytes ≡ 0 → 192 + span (B .n) * 32 ≤ length terms
+    pub none : place terms 0 ≡ 0
 
   module _ (make : (ℕ → ℕ) → List ℕ) where
     -- the matrix of the word in an array
@@ -62,7 +69,7 @@ module _ (bytes : List ℕ) where
     -- a round with the word w: its word, what came of it, and the matrix m
     pub record Stepped (w : List ℕ) (r : Rounded) (m : List ℕ) : Type 0 where
       pub matrix-is : m ≡ made w
-      pub stored : Stored (symbolDigits bytes) (B .n) (r .word)
+      pub stored : Stored (symbolDigits bytes) 255 (r .word)
       pub word-is : listed (r .word) ≡ corrected F B (listed w) (made w)
       pub step-is : r .step ≡ stepOf (emptyUpdateSet F B (cell F B (made w))) (isCodeWord F B (at (B .n) (r .word)))
 
@@ -77,5 +84,5 @@ module _ (bytes : List ℕ) where
 pub record Ready (c : Params) (t terms w m : List ℕ) : Type 0 where
   pub bytes : List ℕ
   pub prepared : Prepared bytes c t terms
-  pub word : Stored (c .p) (c .n) w
+  pub word : Stored (c .p) 255 w
   pub size : length m ≡ 2 ^ c .p * c .n

@@ -2,9 +2,9 @@
 ghost use mathlib.Core.Path.{_≡_};
 ghost use mathlib.Core.Bool.{false};
 ghost use mathlib.Core.List.{List};
-ghost use Prim.Native.Nat.{ℕ, _*_, _^_};
+ghost use Prim.Native.Nat.{ℕ, _*_, _^_, _≤_};
 ghost use lib.ListN.{length};
-ghost use Rattle.spec_book.specs.Layout.{width, fieldOf, bookOf};
+ghost use Rattle.spec_book.specs.Layout.{fieldOf, bookOf};
 ghost use Rattle.spec_decoding.specs.Matrix.{matrix};
 ghost use Rattle.spec_decoding.specs.Decode.{decode};
 ghost use Rattle.word_array.specs.Stored.{Stored};
@@ -55,20 +55,19 @@ fn changed(zero: bool) -> Step
 fn round(c: Params, t: &[u8], terms: &[u16], w: Word, m: &mut [u16]) -> Rounded
     requires { ⌜ Ready c (now t) (now terms) w (now m) ⌝ }
     ensures { λ r. ⌜ ((bytes : List ℕ) → Prepared bytes c (now (t .entry)) (now (terms .entry))
-        → Stepped bytes (matrix (fieldOf bytes) (bookOf width bytes)) w r (now (m .exit))) ⌝ }
+        → Stepped bytes (matrix (fieldOf bytes) (bookOf bytes)) w r (now (m .exit))) ⌝ }
 {
     let n = c.n;
-    matrix::fill(c.p, n, c.duals, terms, w, m);
+    matrix::fill(c.p, n, c.duals, terms, &w, m);
     let e = decode_update::corrections(c.p, n, c.places, m);
-    let next = word_array::add(n, w, e);
+    let next = word_array::add(n, &w, &e);
     if word_array::is_zero(n, &e) {
         return Rounded {
             step: Step::Empty,
             word: next,
         };
     }
-    let rest = word_divide::remainder(c.p, n, c.degree, t, next);
-    let step = changed(word_array::is_zero(c.degree, &rest));
+    let step = changed(word_divide::divides(c.p, n, c.degree, t, &next));
     Rounded { step, word: next }
 }
 
@@ -76,7 +75,7 @@ fn round(c: Params, t: &[u8], terms: &[u16], w: Word, m: &mut [u16]) -> Rounded
 fn go(c: Params, t: &[u8], terms: &[u16], r: Word, m: &mut [u16]) -> End
     requires { ⌜ Ready c (now t) (now terms) r (now m) ⌝ }
     ensures { λ x. ⌜ ((bytes : List ℕ) → Prepared bytes c (now (t .entry)) (now (terms .entry))
-        → Ended bytes (allRounds bytes (matrix (fieldOf bytes) (bookOf width bytes)) (listed bytes r)) x (now (m .exit))) ⌝ }
+        → Ended bytes (allRounds bytes (matrix (fieldOf bytes) (bookOf bytes)) (listed bytes r)) x (now (m .exit))) ⌝ }
 {
     let most = c.rounds;
     let mut w = r;
@@ -113,15 +112,22 @@ fn go(c: Params, t: &[u8], terms: &[u16], r: Word, m: &mut [u16]) -> End
     }
 }
 
-// Decodes the word r: Clean where its remainder is zero, with a matrix of zeros; else by rounds, before the first of which the terms are listed.
-pub fn run(book: &[u8], c: Params, t: &[u8], terms: &mut [u16], r: Word, m: &mut [u16]) -> End
+// Decodes a received word: Clean where its remainder is zero, with a matrix of zeros; else by rounds, before the first of which the terms are listed.
+pub fn run(
+    book: &[u8],
+    c: Params,
+    t: &[u8],
+    terms: &mut [u16],
+    received: &[u8],
+    m: &mut [u16],
+) -> End
     requires { ⌜ Describes (now book) c × Tabulated (now book) (c .p) (c .n) (now t) × TermsRoom (now book) c (now terms)
-        × Stored (c .p) (c .n) r × (length (now m) ≡ 2 ^ c .p * c .n) ⌝ }
-    ensures { λ x. ⌜ Ended (now (book .entry)) (decode (fieldOf (now (book .entry))) (bookOf width (now (book .entry))) (listed (now (book .entry)) r)) x
+        × (c .n ≤ length (now received)) × Stored (c .p) (c .n) (now received) × (length (now m) ≡ 2 ^ c .p * c .n) ⌝ }
+    ensures { λ x. ⌜ Ended (now (book .entry)) (decode (fieldOf (now (book .entry))) (bookOf (now (book .entry))) (listed (now (book .entry)) (now (received .entry)))) x
         (now (m .exit)) × TermsRoom (now (book .entry)) c (now (terms .exit)) ⌝ }
 {
-    let rest = word_divide::remainder(c.p, c.n, c.degree, t, r);
-    if word_array::is_zero(c.degree, &rest) {
+    let r = word_array::load(received, 0, c.n);
+    if word_divide::divides(c.p, c.n, c.degree, t, received) {
         matrix::clear(m);
         return End {
             kind: Kind::Clean,

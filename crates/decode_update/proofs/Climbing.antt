@@ -17,21 +17,21 @@ use Rattle.decode_update.proofs.Sole.{sole-more}
 pub record Climbing (q n : ℕ) (m : List ℕ) (i : ℕ) (counts symbols : List ℕ) : Type 0 where
   pub first : 1 ≤ i
   pub within : i ≤ q
-  pub counts-long : length counts ≡ 63
-  pub symbols-long : length symbols ≡ 63
+  pub counts-long : length counts ≡ 255
+  pub symbols-long : length symbols ≡ 255
   pub peaked : Peaked n m i counts symbols
 
 -- no row is taken
-pub climbing-none : {q n i : ℕ} {m : List ℕ} → i ≡ 1 → 1 ≤ q → Climbing q n m i (replicate 63 0) (replicate 63 0)
+pub climbing-none : {q n i : ℕ} {m : List ℕ} → i ≡ 1 → 1 ≤ q → Climbing q n m i (replicate 255 0) (replicate 255 0)
 climbing-none {q} {n} {i} {m} e l =
     record {
       first = omega arith;
       within = omega arith;
-      counts-long = length-replicate {A = ℕ} 63 0;
-      symbols-long = length-replicate {A = ℕ} 63 0;
+      counts-long = length-replicate {A = ℕ} 255 0;
+      symbols-long = length-replicate {A = ℕ} 255 0;
       peaked = record {
-        count-at = λ j l. zero-at 63 j ∙ sym (ap (λ (i : ℕ). largest (pred i) (column n m j)) e ∙ fold-none max 0 _);
-        symbol-at = λ j l. subst (Sole (pred i) (column n m j) (place (replicate 63 0) j)) (sym (zero-at 63 j)) (none (zero-at 63 j));
+        count-at = λ j l. zero-at 255 j ∙ sym (ap (λ (i : ℕ). largest (pred i) (column n m j)) e ∙ fold-none max 0 _);
+        symbol-at = λ j l. subst (Sole (pred i) (column n m j) (place (replicate 255 0) j)) (sym (zero-at 255 j)) (none (zero-at 255 j));
       };
     }
 

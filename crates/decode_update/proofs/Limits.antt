@@ -4,17 +4,19 @@ use mathlib.Core.Path.{_≡_, refl, sym, ap, _∙_}
 use mathlib.Core.Logic.{⊎-elim}
 use mathlib.Core.Bool.{Bool, true, false}
 use mathlib.Core.List.{List}
-use Prim.Native.Nat.{ℕ, zero, suc, _+_, _-_, _≤_, _<_}
-use native.Mathlib.Nat.{le-refl, le-step, le-trans, lt-of-not-le, mul-one, add-zero, not-suc-le-zero}
-use native.Mathlib.Decide.{le-ind}
+use Prim.Native.Nat.{ℕ, zero, suc, _+_, _-_, _*_, _≤_, _<_}
+use native.Mathlib.Nat.{le-refl, le-trans, lt-of-not-le, mul-one, not-suc-le-zero}
 use native.Mathlib.Omega.{arith}
 use borrow.Author.Tests.{lt-ltb, le-ltb, le-leb, lt-leb, leb-true, leb-false}
 use lib.Dec.{T, leb, ltb, leb→le, le→leb}
+use Rattle.sizes.specs.Blocks.{blocks}
+use Rattle.sizes.proofs.Lengths.{blocks-high, blocks-fit}
 use Rattle.spec_range.specs.Fold.{fold, indicator, count}
-use Rattle.spec_range.proofs.Fold.{fold-cong}
+use Rattle.spec_range.proofs.Fold.{fold-cong, fold-short, sums}
 use Rattle.spec_range.proofs.Count.{count-le, total-equal}
 use Rattle.word_array.specs.Stored.{place}
 use Rattle.decode_update.specs.Rule.{atMost, atLeast, Widened, Limit}
+use Rattle.decode_update.proofs.Counts.{count-longer}
 use Rattle.decode_update.proofs.Search.{le-or-lt, Sought, sought-end}
 
 -- ---- counts
@@ -33,10 +35,7 @@ count-mono (suc n) p q h = omega (arith, count-mono n p q h, one (p n) (q n) (h 
 
 -- where the places from n on fail, they may be left out
 count-front : {n m : ℕ} (p : ℕ → Bool) → n ≤ m → ((k : ℕ) → n ≤ k → k < m → p k ≡ false) → count m p ≡ count n p
-unfolding fold
-count-front {n} {m} p l =
-    le-ind (λ (m : ℕ). ((k : ℕ) → n ≤ k → k < m → p k ≡ false) → count m p ≡ count n p) (λ h. refl)
-    (λ m l ih h. ap (λ (b : Bool). count m p + indicator b) (h m l (le-refl (suc m))) ∙ add-zero (count m p) ∙ ih (λ k l b. h k l (le-step b))) m l
+count-front {n} {m} p l h = fold-short _+_ 0 sums n m l _ (λ k a b. ap indicator (h k a b))
 
 -- all are counted, where all pass
 count-all : (n : ℕ) (p : ℕ → Bool) → ((k : ℕ) → k < n → p k ≡ true) → count n p ≡ n
@@ -74,13 +73,13 @@ module _ (n most : ℕ) (a : List ℕ) where
   full x b = count-all n (λ k. leb (place a k) x) (λ k l. le-leb (place a k) x (b k l))
 
   module _ {size : ℕ} where
-    pub low-start : most < n → 1 ≤ size → ((k : ℕ) → k < n → place a k < size) → Sought size Low 0 size
-    low-start l s b =
+    pub low-start : {top : ℕ} → most < atMost n a top → top < size → Sought size Low 0 (top + 1)
+    low-start {top} l s =
         record {
-          some = s;
+          some = omega arith;
           within = omega arith;
           below = λ x l. absurd (not-suc-le-zero l);
-          above = λ x f t p. omega (arith, full x (λ k l. omega (arith, b k l)));
+          above = λ x f t p. omega (arith, low-falls top x (omega arith) p);
         }
 
     pub low-end : {t w : ℕ} → Sought size Low t w → w ≤ 1 → Limit size n a most t
@@ -96,23 +95,35 @@ module _ (n most : ℕ) (a : List ℕ) where
 
 -- ---- the two limits
 
--- none is past the numbers put in, so that the limit of fewer than n of them all is that of the list's
-pub limit-front : {size n most t v : ℕ} {a w : List ℕ} → Widened n a v w → n ≤ 64 → most < n → Limit size 64 w most t → Limit size n a most t
+-- the blocks of a word hold it, and fit
+pub blocks-hold : {n r : ℕ} → r ≡ blocks n → n ≤ 255 → (n ≤ 64 * r) × (64 * r ≤ 256)
+blocks-hold {n} e h = (omega (arith, blocks-fit h), omega (arith, blocks-high n))
+
+-- where no number of the list is past `top`, more than `most`, fewer than n, of the widened list are at most it
+pub top-counts : {n span most top v : ℕ} {a w : List ℕ} → Widened n a v w → n ≤ span → most < n → ((k : ℕ) → k < n → place a k ≤ top)
+    → most < atMost span w top
 unfolding atMost
-limit-front {n = n} {most = most} {v = v} {a = a} {w = w} h f l t =
+top-counts {n} {span} {most} {top} {v} {a} {w} h f l b =
+    omega (arith, count-longer (λ k. leb (place w k) top) f, full n most w top (λ k l. omega (arith, h .at k l, b k l)))
+
+-- none is past the numbers put in, so that the limit of fewer than n of them all is that of the list's
+pub limit-front : {size n span most t v : ℕ} {a w : List ℕ} → Widened n a v w → n ≤ span → span ≤ 256 → most < n → Limit size span w most t
+    → Limit size n a most t
+unfolding atMost
+limit-front {n = n} {span = span} {most = most} {v = v} {a = a} {w = w} h f b l t =
     record { within = t .within; test = λ x s. ⊎-elim (past x) (short x) (le-or-lt v x) ∙ t .test x s }
   where
-    short : (x : ℕ) → x < v → leb (atMost n a x) most ≡ leb (atMost 64 w x) most
+    short : (x : ℕ) → x < v → leb (atMost n a x) most ≡ leb (atMost span w x) most
     short x l =
         ap (λ (y : ℕ). leb y most)
         (sym
-        (count-front (λ k. leb (place w k) x) f (λ k b c. ap (λ (y : ℕ). leb y x) (h .rest k b c) ∙ lt-leb v x l)
+        (count-front (λ k. leb (place w k) x) f (λ k f c. ap (λ (y : ℕ). leb y x) (h .rest k f (omega arith)) ∙ lt-leb v x l)
         ∙ fold-cong _+_ 0 n (λ k b. ap (λ (y : ℕ). indicator (leb y x)) (h .at k b))))
 
-    past : (x : ℕ) → v ≤ x → leb (atMost n a x) most ≡ leb (atMost 64 w x) most
+    past : (x : ℕ) → v ≤ x → leb (atMost n a x) most ≡ leb (atMost span w x) most
     past x s =
         lt-leb (atMost n a x) most (omega (arith, full n most a x (λ k l. omega (arith, h .at k l, h .most k (omega arith)))))
-        ∙ sym (lt-leb (atMost 64 w x) most (omega (arith, full 64 most w x (λ k l. le-trans (h .most k l) s))))
+        ∙ sym (lt-leb (atMost span w x) most (omega (arith, full span most w x (λ k l. le-trans (h .most k (omega arith)) s))))
 
 module _ (n places : ℕ) (a : List ℕ) {size t : ℕ} where
   -- the peaks below a limit are those that are not at least the limit

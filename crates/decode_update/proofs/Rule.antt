@@ -88,6 +88,6 @@ module _ (p : ℕ) (laws : FieldLaws (gf p)) (B : Book) (m counts symbols : List
 
   -- an array that holds what the counts admit holds the corrections
   pub corrections-held : {n′ places j : ℕ} {w : List ℕ} → n ≡ n′ → most-places ≡ places → Peaked n′ m (2 ^ p) counts symbols → j ≡ n′
-      → Held 63 j (λ j. admitted places (atMost n′ m (place m j)) (atLeast n′ counts (place counts j)) (place symbols j)) w
-      → w ≡ padded 63 n′ (correction (gf p) B (cell (gf p) B m))
-  corrections-held e d h k f = held-end k f ∙ padded-same 63 _ (corrections-at e d h)
+      → Held 255 j (λ j. admitted places (atMost n′ m (place m j)) (atLeast n′ counts (place counts j)) (place symbols j)) w
+      → w ≡ padded 255 n′ (correction (gf p) B (cell (gf p) B m))
+  corrections-held e d h k f = held-end k f ∙ padded-same 255 _ (corrections-at e d h)

@@ -20,12 +20,12 @@ atLeast n a x = count n (λ k. leb x (place a k))
 unfoldable pub admitted : ℕ → ℕ → ℕ → ℕ → ℕ
 admitted places low high e = cond (leb low places && leb high places) e 0
 
--- the first n numbers of a list in 64 places, and in the others the number x, which none is past
+-- the first n numbers of a list in 256 places, and in the others the number x, which none is past
 pub record Widened (n : ℕ) (a : List ℕ) (x : ℕ) (w : List ℕ) : Type 0 where
-  pub long : length w ≡ 64
+  pub long : length w ≡ 256
   pub at : (k : ℕ) → k < n → place w k ≡ place a k
-  pub rest : (k : ℕ) → n ≤ k → k < 64 → place w k ≡ x
-  pub most : (k : ℕ) → k < 64 → place w k ≤ x
+  pub rest : (k : ℕ) → n ≤ k → k < 256 → place w k ≡ x
+  pub most : (k : ℕ) → k < 256 → place w k ≤ x
 
 -- t is the least number that more than `most` of the first n numbers are at most; `size` is the bound of numbers
 pub record Limit (size n : ℕ) (a : List ℕ) (most t : ℕ) : Type 0 where

@@ -7,22 +7,23 @@ use Prim.Native.Nat.{ℕ, zero, suc, _+_, _-_, _*_, _/_, _%_, _^_, _≤_, _<_}
 use native.Mathlib.Nat.{mod-eq-of-lt}
 use native.Mathlib.Decide.{decLt}
 use native.Mathlib.Omega.{arith}
-use lib.Dec.{eqb, eqb→eq, leb→le}
+use lib.Dec.{eqb}
 use lib.ListN.{length}
 use Rattle.spec_range.specs.Fold.{indicator}
-use Rattle.spec_range.proofs.Tests.{and-left, and-right}
 use Rattle.spec_range.proofs.Fold.{fold-cong}
 use Rattle.spec_range.proofs.Table.{table-same}
 use Rattle.spec_field.specs.Field.{FieldLaws}
 use Rattle.spec_field.specs.Symbols.{gf}
 use Rattle.spec_field.proofs.Gf.{gf-laws}
 use Rattle.spec_word.specs.Word.{nonzero}
-use Rattle.word_array.specs.Stored.{Sizes, Stored}
+use Rattle.sizes.specs.Blocks.{stride}
+use Rattle.sizes.proofs.Lengths.{blocks-high}
+use Rattle.word_array.specs.Stored as S
 use Rattle.spec_book.specs.Book.{Book}
-use Rattle.spec_book.specs.Layout.{width, dualAt, dualCount, sizeExponent, symbolDigits, fieldOf, bookOf}
-use Rattle.spec_book.specs.Conditions.{lengthOk, sizesOk}
+use Rattle.spec_book.specs.Layout.{dualAt, width, dualsIn, sizeExponent, symbolDigits, fieldOf, bookOf}
 use Rattle.spec_book.proofs.Sound.{sound}
-use Rattle.spec_book.proofs.Accepting.{accepted}
+use Rattle.spec_book.proofs.Accepting.{Form, short, long, form, dual-apart, Sizes, whole-book, accepted}
+use Rattle.book_layout.proofs.Sized.{word-sizes}
 use Rattle.matrix_terms.specs.Count.{placeCounts, dualCounts, counted}
 use Rattle.matrix_terms.specs.Terms.{TermsOf, Filling, dualOf}
 use Rattle.matrix_terms.specs.Listed.{Listable}
@@ -39,64 +40,84 @@ by-duals p laws B r =
     (sym (check-product (gf p) laws B (B .dual l) r h (k % B .n))))))
 
 -- a word of 2 ^ s - 1 symbols
-steps : (s : ℕ) → 4 ≤ s → s ≤ 6 → (2 ^ s - 1 + 1) % 8 ≡ 0
+steps : (s : ℕ) → 4 ≤ s → s ≤ 8 → (2 ^ s - 1 + 1) % 8 ≡ 0
 steps s l h = subst (λ (s : ℕ). (2 ^ s - 1 + 1) % 8 ≡ 0) (omega arith) (above (s - 4) (omega arith))
   where
-    above : (k : ℕ) → k ≤ 2 → (2 ^ (4 + k) - 1 + 1) % 8 ≡ 0
+    above : (k : ℕ) → k ≤ 4 → (2 ^ (4 + k) - 1 + 1) % 8 ≡ 0
     above zero h = refl
     above (suc zero) h = refl
     above (suc (suc zero)) h = refl
-    above (suc (suc (suc k))) h = absurd (omega arith)
+    above (suc (suc (suc zero))) h = refl
+    above (suc (suc (suc (suc zero)))) h = refl
+    above (suc (suc (suc (suc (suc k))))) h = absurd (omega arith)
+
+-- what filling asks, of a word in an array that has symbols only
+pub filling : (bytes : List ℕ) {p n duals : ℕ} {terms r m : List ℕ} → TermsOf (stride n) p n duals (dualOf bytes) terms → length r ≡ 255 → S.Stored p 255 r
+    → length m ≡ 2 ^ p * n → Filling (stride n) p n duals terms r m
+filling bytes {n = n} t size r m =
+    record {
+      words = dualOf bytes;
+      terms-of = t;
+      room = omega (arith, blocks-high n);
+      word = λ j l. r .symbol j (omega (arith, blocks-high n));
+      size = m;
+    }
 
 module _ {bytes : List ℕ} {p n duals : ℕ} (ok : Fillable bytes p n duals) where
-  fill-sizes : Sizes p n
-  fill-sizes =
-      let s = accepted width (omega arith) bytes (ok .accepted) .0 in
-      rw (ok .p-is, ok .n-is) (record { p-low = s .p-low; p-high = s .p-high; n-low = omega (arith, s .n-low); n-high = s .n-high })
-
-  few-duals : duals ≤ 32
-  unfolding lengthOk
-  few-duals = let t = sound width bytes (ok .accepted) .length-ok in rw (ok .duals-is) (leb→le _ 32 (search (and-left, and-right) depth 5))
+  fill-sizes : S.Sizes p n
+  fill-sizes = rw (ok .p-is, ok .n-is) (word-sizes bytes (accepted bytes (ok .accepted) .0))
 
   -- the terms can be listed
   pub listable : Listable bytes p n duals
-  unfolding lengthOk bookOf
+  unfolding bookOf
   listable =
-      let t = sound width bytes (ok .accepted) .length-ok in
-      let e : length bytes ≡ dualAt width (dualCount width (length bytes)) = eqb→eq _ _ (search (and-left, and-right) depth 5) in
-      let a = accepted width (omega arith) bytes (ok .accepted) .1 in
+      let w = whole-book bytes (sound bytes (ok .accepted)) in
+      let a = accepted bytes (ok .accepted) .1 in
       record {
         sizes = fill-sizes;
         length-is = ok .n-is;
-        duals-low = rw (ok .duals-is) (leb→le 1 _ (search (and-left, and-right) depth 5));
-        duals-high = few-duals;
-        within = λ l h. omega (arith, ok .duals-is, fill-sizes .n-high);
+        duals-low = omega (arith, ok .duals-is, w .count-low);
+        duals-high = omega (arith, ok .duals-is, w .count-high);
+        within = λ l h. within l (omega (arith, ok .duals-is));
         symbol = λ l j h. rw (ok .p-is) (a .dual-symbols l (rw (ok .duals-is) at h) j);
         one-weight = λ l h. rw (ok .n-is) (a .one-weight l (rw (ok .duals-is) at h));
       }
-
-  -- and the matrix filled
-  pub filling : {stride : ℕ} {terms r m : List ℕ} → TermsOf stride p n duals (dualOf bytes) terms → Stored p n r → length m ≡ 2 ^ p * n
-      → Filling stride p n duals terms r m
-  filling t r m = record { words = dualOf bytes; terms-of = t; word = r; size = m }
+    where
+      -- a record ends where the next one starts, or before
+      within : (l : ℕ) → l < dualsIn bytes → dualAt (width bytes) l + 1 + n ≤ length bytes
+      within l h =
+          omega (
+            arith,
+            dual-apart (width bytes) h,
+            whole-book bytes (sound bytes (ok .accepted)) .size,
+            ok .n-is,
+            accepted bytes (ok .accepted) .0 .n-high,
+          )
 
   -- what its dual words count is the matrix
-  pub all-duals : (r : ℕ → ℕ) → counted p n (dualOf bytes) duals r ≡ matrix (fieldOf bytes) (bookOf width bytes) r
+  pub all-duals : (r : ℕ → ℕ) → counted p n (dualOf bytes) duals r ≡ matrix (fieldOf bytes) (bookOf bytes) r
   unfolding bookOf
   all-duals r =
-      let s = accepted width (omega arith) bytes (ok .accepted) .0 in
-      rw (ok .p-is, ok .n-is, ok .duals-is) (by-duals (symbolDigits bytes) (gf-laws _ (s .p-low) (s .p-high)) (bookOf width bytes) r)
+      let s = accepted bytes (ok .accepted) .0 in
+      rw (ok .p-is, ok .n-is, ok .duals-is) (by-duals (symbolDigits bytes) (gf-laws _ (s .p-low) (s .p-high)) (bookOf bytes) r)
 
   -- with 16 symbols or more, n + 1 is a multiple of 8
   pub whole-steps : 4 ≤ p → (n + 1) % 8 ≡ 0
-  unfolding sizesOk
   whole-steps low =
-      let t = sound width bytes (ok .accepted) .sizes-ok in
-      let high : sizeExponent bytes ≤ 6 = leb→le (sizeExponent bytes) 6 (search (and-left, and-right) depth 9) in
-      let divides : sizeExponent bytes % symbolDigits bytes ≡ 0 = eqb→eq _ 0 (search (and-left, and-right) depth 9) in
-      let some : 2 ≤ sizeExponent bytes = leb→le 2 (sizeExponent bytes) (search (and-left, and-right) depth 9) in
-      rw (ok .n-is) (steps _ (at-least divides some (decLt (sizeExponent bytes) (symbolDigits bytes))) high)
+      let s = accepted bytes (ok .accepted) .0 in
+      rw (ok .n-is) (steps _ (at-least (s .divides) (s .s-low) (decLt (sizeExponent bytes) (symbolDigits bytes))) (s .s-high))
     where
       at-least : sizeExponent bytes % symbolDigits bytes ≡ 0 → 2 ≤ sizeExponent bytes → Dec (sizeExponent bytes < symbolDigits bytes) → 4 ≤ sizeExponent bytes
       at-least e some (yes l) = absurd (omega (arith, mod-eq-of-lt l))
       at-least e some (no h) = omega (arith, ok .p-is)
+
+  -- a long word has at most 4 symbols, or 16
+  pub whole-few : p ≤ 3 → 64 ≤ n → p ≤ 2
+  whole-few few low = go (form bytes)
+    where
+      s : Sizes bytes
+      s = accepted bytes (ok .accepted) .0
+
+      go : Form bytes → p ≤ 2
+      go (short f w) = omega (arith, ok .n-is, s .short-n f)
+      go (long f w) = rw (ok .p-is) (s .long-few f (rw (ok .p-is) at few))

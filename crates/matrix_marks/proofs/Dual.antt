@@ -61,7 +61,7 @@ module _ {stride p n duals l : ℕ} {b : ℕ → ℕ} {terms : List ℕ} (ok : T
             ∙ sym (ap (λ (t : Bool). indicator (not t && divides)) (ne-eqb (b a) 0 z))
 
     -- the terms count what the dual word counts
-    pub terms-count : (k j : ℕ) → termCounts stride p (at n w) (term terms l) (place terms 0) k j ≡ dualCounts p n b f (power p k) j
+    pub terms-count : (k j : ℕ) → termCounts stride p (at n w) (term n terms l) (place terms 0) k j ≡ dualCounts p n b f (power p k) j
     unfolding termCounts dualCounts
     terms-count k j =
         fold-cong _+_ 0 (place terms 0) (λ i a.

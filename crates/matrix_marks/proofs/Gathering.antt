@@ -12,11 +12,8 @@ use lib.ListN.{length}
 use Rattle.word_array.specs.Stored.{place}
 use Rattle.word_table.specs.Window.{Window}
 use Rattle.word_table.proofs.Rows.{rows-apart}
-use Rattle.matrix_marks.specs.Marks.{RowCopied, Gatherable, Gathered}
-
--- n places, all copied
-pub window-copied : {n to from j : ℕ} {c m₀ m : List ℕ} → j ≡ n → Window to j (λ j. place c (from + j)) m₀ m → RowCopied n to from c m₀ m
-window-copied e h = record { long = h .long; copied = λ j l. h .at j (omega (arith, e)); low = h .low; high = λ k l. h .high k (omega (arith, e)) }
+use Rattle.matrix_terms.proofs.Received.{order-low}
+use Rattle.matrix_marks.specs.Marks.{Gatherable, Gathered}
 
 -- rows 1 to i - 1 are gathered
 pub record Gathering (span n : ℕ) (logs c m₀ m : List ℕ) (i : ℕ) : Type 0 where
@@ -40,14 +37,18 @@ module _ {span p n : ℕ} {logs c m₀ m : List ℕ} {i : ℕ} (ok : Gatherable 
       let low = ok .log-lt i (h .from-one) l in
       omega (arith, rows-apart span {b = place logs i} {c = 2 ^ p - 1} (omega arith), ok .counts-long, ok .short)
 
+  -- a row of counters is no longer than all
+  pub span-within : span ≤ length c
+  span-within = omega (arith, rows-apart span {b = 0} {c = 2 ^ p - 1} (omega (arith, order-low (ok .sizes))), ok .counts-long)
+
   -- one more row
-  pub gathering-more : {m′ : List ℕ} → RowCopied n (i * n) (span * place logs i) c m m′ → Gathering span n logs c m₀ m′ (i + 1)
+  pub gathering-more : {m′ : List ℕ} → Window (i * n) n (λ j. place c (span * place logs i + j)) m m′ → Gathering span n logs c m₀ m′ (i + 1)
   gathering-more {m′} put =
       record {
         from-one = omega arith;
         long = put .long ∙ h .long;
         gathered = λ k j pos l b. ⊎-elim
-            (λ q. subst (λ (k : ℕ). place m′ (k * n + j) ≡ place c (span * place logs k + j)) (sym q) (put .copied j b))
+            (λ q. subst (λ (k : ℕ). place m′ (k * n + j) ≡ place c (span * place logs k + j)) (sym q) (put .at j b))
             (λ l. put .low _ (digits-lt l b) ∙ h .gathered k j pos l b)
             (eq-or-lt-of-le (le-of-suc-le-suc (subst (λ (m : ℕ). k < m) (add-one i) l)));
       }

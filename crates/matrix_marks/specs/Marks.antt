@@ -4,9 +4,10 @@ use mathlib.Core.Path.{_≡_}
 use mathlib.Core.List.{List}
 use Prim.Native.Nat.{ℕ, _+_, _-_, _*_, _/_, _%_, _^_, _≤_, _<_}
 use lib.Dec.{eqb}
-use lib.ListN.{length, replicate}
+use lib.ListN.{length}
 use Rattle.spec_range.specs.Fold.{total, indicator, count}
-use Rattle.word_array.specs.Stored.{place, Sizes, Stored}
+use Rattle.spec_word.specs.Word.{at}
+use Rattle.word_array.specs.Stored.{place, Sizes}
 use Rattle.word_table.specs.Multiples.{Multiples}
 use Rattle.field_powers.specs.Powers.{power}
 use Rattle.matrix_terms.specs.Count.{dualCounts}
@@ -16,16 +17,20 @@ use Rattle.matrix_terms.specs.Terms.{TermsOf}
 abbrev pub powersIn : List ℕ → ℕ → ℕ
 powersIn terms e = place terms (64 + e)
 
--- v has as many rows, and the first powers of a room are bytes
-pub record Markable (stride rows : ℕ) (terms v : List ℕ) : Type 0 where
+-- v has as many rows, each with room for the word w of n symbols twice over, and the first powers of a room are bytes
+pub record Markable (stride span n rows : ℕ) (terms w v : List ℕ) : Type 0 where
+  pub short : n ≤ span
+  pub fits : n + span ≤ stride
   pub within : 64 + rows ≤ length terms
+  pub word : span ≤ length w
   pub long : stride * rows ≤ length v
   pub byte : (e : ℕ) → e < rows → place terms (64 + e) < 256
 
--- the first rows of v mark where d has the symbol of the row
-pub record Marked (stride rows : ℕ) (symbols : ℕ → ℕ) (d v : List ℕ) : Type 0 where
+-- the first rows of v mark where the word w of n symbols, twice over, has the symbol of the row
+pub record Marked (stride span n rows : ℕ) (symbols : ℕ → ℕ) (w v : List ℕ) : Type 0 where
   pub long : stride * rows ≤ length v
-  pub mark-at : (e j : ℕ) → e < rows → j < stride → place v (stride * e + j) ≡ indicator (eqb (place d j) (symbols e))
+  pub mark-at : (e j : ℕ) → e < rows → j < n + n → place v (stride * e + j) ≡ indicator (eqb (at n w j) (symbols e))
+  pub mark-le : (e j : ℕ) → e < rows → j < n + span → place v (stride * e + j) ≤ 1
 
 -- the marks from `from` on can be added to a row of counters
 pub record Addable (span : ℕ) (v : List ℕ) (from : ℕ) (row : List ℕ) : Type 0 where
@@ -39,21 +44,15 @@ marksOf v start terms from weight j = total weight (λ i. place v (start + place
 
 -- the terms lie within v, where they have marks, and a byte holds their sum
 pub record Summable (span : ℕ) (v : List ℕ) (start : ℕ) (terms : List ℕ) (from weight : ℕ) : Type 0 where
-  pub few : weight ≤ 63
+  pub few : weight ≤ 255
   pub long : from + weight ≤ length terms
+  pub start-in : start + span ≤ length v
   pub within : (i : ℕ) → i < weight → start + place terms (from + i) + span ≤ length v
   pub mark-le : (i j : ℕ) → i < weight → j < span → place v (start + place terms (from + i) + j) ≤ 1
 
--- a row is added to row e of the counters c₀, and nothing else is changed
-pub record RowAdded (span e : ℕ) (row c₀ c : List ℕ) : Type 0 where
-  pub long : length c ≡ length c₀
-  pub added : (j : ℕ) → j < span → place c (span * e + j) ≡ place c₀ (span * e + j) + place row j
-  pub low : (k : ℕ) → k < span * e → place c k ≡ place c₀ k
-  pub high : (k : ℕ) → span * e + span ≤ k → place c k ≡ place c₀ k
-
 -- each term of a dual word is `stride` times a logarithm and a place
 pub record Turning (stride p n : ℕ) (terms : ℕ → ℕ) (weight : ℕ) : Type 0 where
-  pub few : weight ≤ 63
+  pub few : weight ≤ 255
   pub log-lt : (i : ℕ) → i < weight → terms i / stride + 1 < 2 ^ p
   pub place-lt : (i : ℕ) → i < weight → terms i % stride < n
 
@@ -71,41 +70,39 @@ pub record Turned (stride span p n : ℕ) (w terms : List ℕ) (from weight : �
   pub short : n ≤ span
   pub fits : n + span ≤ stride
   pub power-at : (e : ℕ) → e + 2 < 2 * 2 ^ p → place terms (64 + e) ≡ power p e
-  pub word : Stored p span w
+  pub word : span ≤ length w
   pub turning : Turning stride p n (termsFrom terms from) weight
   pub powers-long : 192 ≤ length terms
   pub terms-long : from + weight ≤ length terms
   pub marks-long : stride * (2 * (2 ^ p - 1)) ≤ length v
   pub counts-long : span * (2 ^ p - 1) ≤ length c
-  pub room : (k : ℕ) → place c k ≤ 65200
+  pub room : (k : ℕ) → place c k ≤ 65025
 
--- f e j is added to the counter of x ^ e in column j, and at most 63 to any
+-- f e j is added to the counter of x ^ e in column j, and at most 255 to any
 pub record Counted (span p n : ℕ) (f : ℕ → ℕ → ℕ) (c₀ c : List ℕ) : Type 0 where
   pub long : length c ≡ length c₀
   pub added : (e j : ℕ) → e + 1 < 2 ^ p → j < n → place c (span * e + j) ≡ place c₀ (span * e + j) + f e j
-  pub room : (k : ℕ) → place c k ≤ place c₀ k + 63
+  pub room : (k : ℕ) → place c k ≤ place c₀ k + 255
 
--- the counters of the first l of the dual words whose terms a room has, in a row for each of 8 symbols
+-- the counters of the first l of the dual words whose terms a room has
 pub record Tallied (stride span p n duals : ℕ) (terms : List ℕ) (r : ℕ → ℕ) (l : ℕ) (c : List ℕ) : Type 0 where
-  pub long : length c ≡ span * 8
+  pub long : span * (2 ^ p - 1) ≤ length c
   pub tally : (b : ℕ → ℕ → ℕ) → TermsOf stride p n duals b terms
       → (e j : ℕ) → e + 1 < 2 ^ p → j < n → place c (span * e + j) ≡ total l (λ l. dualCounts p n (b l) r (power p e) j)
-  pub room : (k : ℕ) → place c k ≤ 63 * l
+  pub room : (k : ℕ) → place c k ≤ 255 * l
+
+-- rooms for marks and for counters, which are zero
+pub record Rooms (stride span p : ℕ) (v c : List ℕ) : Type 0 where
+  pub marks-long : stride * (2 * (2 ^ p - 1)) ≤ length v
+  pub counts-long : span * (2 ^ p - 1) ≤ length c
+  pub zeros : (k : ℕ) → place c k ≡ 0
 
 -- what counting all dual words asks, t being the table of the received word's multiples
-pub record Countable (stride span p n duals : ℕ) (terms t c : List ℕ) : Type 0 where
+pub record Countable (stride span p n duals : ℕ) (terms t v c : List ℕ) : Type 0 where
   pub words : ℕ → ℕ → ℕ
   pub terms-of : TermsOf stride p n duals words terms
-  pub few-symbols : p ≤ 3
   pub multiples : Multiples stride p n t
-  pub zeros : c ≡ replicate (span * 8) 0
-
--- n counters from `from` on are copied into m from `to` on, and nothing else is changed
-pub record RowCopied (n to from : ℕ) (c m₀ m : List ℕ) : Type 0 where
-  pub long : length m ≡ length m₀
-  pub copied : (j : ℕ) → j < n → place m (to + j) ≡ place c (from + j)
-  pub low : (k : ℕ) → k < to → place m k ≡ place m₀ k
-  pub high : (k : ℕ) → to + n ≤ k → place m k ≡ place m₀ k
+  pub rooms : Rooms stride span p v c
 
 -- m has a row for each symbol, and the counters c one for each logarithm
 pub record Gatherable (span p n : ℕ) (logs c m : List ℕ) : Type 0 where

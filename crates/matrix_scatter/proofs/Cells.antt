@@ -3,13 +3,13 @@
 use mathlib.Core.Path.{_≡_, refl, sym, ap, _∙_, subst}
 use mathlib.Core.Bool.{Bool, true, false}
 use mathlib.Core.List.{List}
-use Prim.Native.Nat.{ℕ, zero, suc, _+_, _≤_, _<_}
-use native.Mathlib.Nat.{add-zero, add-suc, add-assoc}
+use Prim.Native.Nat.{ℕ, _+_, _≤_, _<_}
+use native.Mathlib.Nat.{add-zero, add-assoc}
 use native.Mathlib.Omega.{arith}
 use lib.Dec.{eqb}
 use lib.ListN.{length}
 use Rattle.spec_range.specs.Fold.{fold, total, indicator}
-use Rattle.spec_range.proofs.Fold.{fold-cong}
+use Rattle.spec_range.proofs.Fold.{fold-cong, fold-parts, sums}
 use Rattle.spec_range.proofs.Count.{count-le}
 use Rattle.word_array.specs.Stored.{place}
 use Rattle.matrix_terms.specs.Count.{raised}
@@ -95,13 +95,6 @@ module _ {cells : List ℕ} {h base : ℕ} {m : List ℕ} (ok : Within cells h b
         raised-twice m m₁ _ e m₂ _ d
         ∙ raised-same m (λ k _. omega (arith, ap (λ (x : ℕ). indicator (eqb (base + place cells x) k)) (sym (add-zero h))))
 
--- a sum in two parts
-pub total-split : (a b : ℕ) (f : ℕ → ℕ) → total (a + b) f ≡ total a f + total b (λ i. f (a + i))
-unfolding fold
-total-split a zero f = ap (λ (k : ℕ). total k f) (add-zero a) ∙ sym (add-zero (total a f))
-total-split a (suc b) f =
-    ap (λ (k : ℕ). total k f) (add-suc a b) ∙ ap (λ (x : ℕ). x + f (a + b)) (total-split a b f) ∙ add-assoc (total a f) _ (f (a + b))
-
 -- a cell is raised at most once by an offset
 cells-le : (cells : List ℕ) (h base count k : ℕ) → total count (cellAdds cells h base k) ≤ count
 unfolding cellAdds
@@ -133,5 +126,5 @@ module _ {cells : List ℕ} {h base count most : ℕ} {counts₀ counts : List �
             ∙ raised-same counts₀ (λ k _.
             ap (λ (x : ℕ). total z (cellAdds cells h base k) + x)
             (fold-cong _+_ 0 8 (λ i _. ap (λ (x : ℕ). indicator (eqb (base + place cells x) k)) (add-assoc h z i)))
-            ∙ sym (total-split z 8 (cellAdds cells h base k)));
+            ∙ sym (fold-parts _+_ 0 sums z 8 (cellAdds cells h base k)));
       }

@@ -3,10 +3,11 @@
 use mathlib.Core.Path.{_≡_, sym, ap, ap₂, _∙_, fun-ext}
 use mathlib.Core.List.{List}
 use Prim.Native.Nat.{ℕ, _+_, _-_, _*_, _/_, _%_, _^_, _≤_, _<_}
-use native.Mathlib.Nat.{mod-lt, le-trans, mul-le-mul, zero-add}
+use native.Mathlib.Nat.{mod-lt, le-trans, mul-le-mul-right, zero-add}
 use native.Mathlib.Omega.{arith}
 use lib.Arith.{digits-lt, digits-div, digits-mod}
 use lib.Dec.{eqb}
+use lib.ListN.{length}
 use Rattle.spec_range.specs.Fold.{total, indicator}
 use Rattle.spec_range.proofs.Fold.{fold-cong}
 use Rattle.spec_range.proofs.Count.{count-le, fold-le}
@@ -14,6 +15,8 @@ use Rattle.spec_field.specs.Symbols.{gf}
 use Rattle.spec_field.proofs.Gf.{gf-laws}
 use Rattle.spec_word.specs.Word.{at, product}
 use Rattle.spec_word.proofs.Sums.{sum-below}
+use Rattle.sizes.specs.Blocks.{span}
+use Rattle.sizes.proofs.Lengths.{blocks-fit}
 use Rattle.word_array.specs.Stored.{place, Sizes}
 use Rattle.word_table.specs.Multiples.{wordOf, Multiplied}
 use Rattle.word_table.proofs.Tables.{wordOf-period, multiplied-at}
@@ -79,7 +82,7 @@ module _ {stride p n duals : ℕ} {terms r counts₀ : List ℕ} (ok : Scatterin
         → dualRows stride p n terms (startRow n starts) (wordOf stride n t) (b l) l e j ≡ dualRows stride p n terms (symbolRow p terms) (at n r) (b l) l e j
     unfolding dualRows
     rows-read word l e j =
-        ap (λ (f : ℕ → ℕ). rowsWith stride p f (place terms 0) (term terms l) e j)
+        ap (λ (f : ℕ → ℕ). rowsWith stride p f (place terms 0) (term n terms l) e j)
         (fun-ext (λ m. start-row st _ (product-symbol s (b l) (wordOf stride n t) m)
         ∙ ap (λ (f : ℕ → ℕ). symbolRow p terms (product (gf p) n (b l) f m)) word))
 
@@ -95,27 +98,27 @@ module _ {stride p n duals : ℕ} {terms r counts₀ : List ℕ} (ok : Scatterin
         ∙ zero-add _
 
     -- no counter is past the number of all terms
-    pub counters-most : duals ≤ l → (k : ℕ) → place counts k ≤ 2016
-    counters-most c = raised-most counts₀ counts _ (adding-end a c) 2016 2016 empty (λ k. le-trans (duals-le duals k) (all-le (h .numbers))) (omega arith)
+    pub counters-most : duals ≤ l → (k : ℕ) → place counts k ≤ 8160
+    counters-most c = raised-most counts₀ counts _ (adding-end a c) 8160 8160 empty (λ k. le-trans (duals-le duals k) (all-le (h .numbers))) (omega arith)
 
-    module _ (d : l < duals) {span : ℕ} {w : List ℕ} (short : n ≤ span) (mul : Multiplied span p n (b l) (wordOf stride n t) w) where
-      symbol : (j : ℕ) → j < span → place w j < 2 ^ p
-      symbol j c = mul .symbols .symbol j c
+    module _ (d : l < duals) {w : List ℕ} (mul : Multiplied (span n) p n (b l) (wordOf stride n t) w) where
+      symbol : (j : ℕ) → j < n → place w j < 2 ^ p
+      symbol j c = mul .symbols .symbol j (omega (arith, blocks-fit (s .n-high)))
 
       -- the word has offsets
       pub dual-started : Started n starts w
       dual-started =
           record {
-            symbol = λ j c. omega (arith, symbol j (omega arith), order-le s);
+            symbol = λ j c. omega (arith, symbol j c, order-le s);
             small = λ j c.
-                let e = symbol j (omega arith) in
+                let e = symbol j c in
                 omega (arith, st .start (place w j) e, start-le s (logged (h .numbers)) (place w j) e);
           }
 
-      module _ {cells : List ℕ} (off : Offsets stride n starts w cells) where
+      module _ {cells₀ cells : List ℕ} (wide : length cells₀ ≡ 512) (off : Offsets n starts w cells₀ cells) where
         word-symbol : (m : ℕ) → at n w m < 2 ^ p
         unfolding at
-        word-symbol m = symbol (m % n) (omega (arith, mod-lt m (s .n-low)))
+        word-symbol m = symbol (m % n) (mod-lt m (s .n-low))
 
         cell-is : (m : ℕ) → m < n + n → place cells m ≡ symbolRow p terms (at n w m) * (n + 1) + m
         cell-is m c = off .offset m c ∙ ap (λ (x : ℕ). x + m) (st .start _ (word-symbol m))
@@ -130,21 +133,20 @@ module _ {stride p n duals : ℕ} {terms r counts₀ : List ℕ} (ok : Scatterin
         pub dual-countable : Countable stride l p n cells terms counts
         dual-countable =
             let x = h .numbers in
-            let few : place terms 0 ≤ 63 = omega (arith, x .few, s .n-high) in
             record {
               sizes = s;
               eights = ok .eights;
               low = omega (arith, x .few-duals);
-              few = few;
-              cells-long = omega (arith, off .long, x .fits);
+              few = x .few;
+              cells-long = omega (arith, off .long, s .n-high);
               row-le = λ m c. omega (arith, row-is m c, row-le (logged x) (at n w m) (word-symbol m));
               cell-at = λ m c. cell-is m c ∙ ap (λ (x : ℕ). x * (n + 1) + m) (sym (row-is m c));
               terms-long = x .long;
               place-lt = λ i c. x .place-lt l i d c;
               log-lt = λ i c. x .log-lt l i d c;
               size = omega (arith, ok .cleared .size, adding-long a);
-              room = raised-most counts₀ counts _ (a .added) 2016 65200 empty
-                  (λ k. le-trans (duals-le l k) (mul-le-mul {n₂ = 32} {m₂ = 63} (omega (arith, x .few-duals)) few)) (omega arith);
+              room = raised-most counts₀ counts _ (a .added) 8160 64900 empty
+                  (λ k. le-trans (duals-le l k) (le-trans (mul-le-mul-right (place terms 0) (a .within)) (all-le x))) (omega arith);
             }
 
         -- the rows by the offsets are the rows of the product
@@ -152,8 +154,8 @@ module _ {stride p n duals : ℕ} {terms r counts₀ : List ℕ} (ok : Scatterin
         unfolding rowsWith dualRows
         rows-same k =
             fold-cong _+_ 0 (place terms 0) (λ i c.
-            let m = term terms l i % stride + k % (n + 1) in
-            ap (λ (x : ℕ). indicator (eqb (x + (2 ^ p - 1 - term terms l i / stride)) (k / (n + 1))))
+            let m = term n terms l i % stride + k % (n + 1) in
+            ap (λ (x : ℕ). indicator (eqb (x + (2 ^ p - 1 - term n terms l i / stride)) (k / (n + 1))))
             (row-is m (omega (arith, h .numbers .place-lt l i d c, mod-lt k {m = n + 1} (omega arith)))
             ∙ sym (start-row st _ (word-symbol m)) ∙ ap (startRow n starts) (multiplied-at s (wordOf-period stride n t) mul m)))
 

@@ -1,12 +1,12 @@
 -- The offsets of a word, written twice over.
 -- Assumes nothing.
-use mathlib.Core.Path.{_≡_, sym, ap, ap₂, _∙_}
+use mathlib.Core.Path.{_≡_, refl, sym, ap, ap₂, _∙_}
 use mathlib.Core.List.{List}
 use Prim.Native.Nat.{ℕ, _+_, _-_, _≤_, _<_}
 use native.Mathlib.Nat.{not-suc-le-zero, add-assoc}
 use native.Mathlib.Decide.{ℕ-discrete, decLt}
 use native.Mathlib.Omega.{arith}
-use lib.ListN.{length, set, replicate, length-set, length-replicate}
+use lib.ListN.{length, set, length-set}
 use lib.Seq.{getD-set-same, getD-set-other}
 use Rattle.spec_word.specs.Word.{at}
 use Rattle.spec_word.proofs.Place.{at-lt, at-period}
@@ -14,19 +14,18 @@ use Rattle.word_array.specs.Stored.{place}
 use Rattle.matrix_scatter.specs.Scatter.{Offsets}
 
 -- the offsets of the places below j are written
-pub record Doubling (stride n : ℕ) (starts w out : List ℕ) (j : ℕ) : Type 0 where
-  pub long : length out ≡ stride
+pub record Doubling (n : ℕ) (starts w out₀ out : List ℕ) (j : ℕ) : Type 0 where
+  pub long : length out ≡ length out₀
   pub first : (i : ℕ) → i < j → place out i ≡ place starts (place w i) + i
   pub second : (i : ℕ) → i < j → place out (n + i) ≡ place starts (place w i) + i + n
 
 -- before the first place
-pub doubling-none : (stride n : ℕ) (starts w : List ℕ) → Doubling stride n starts w (replicate stride 0) 0
-doubling-none stride n starts w =
-    record { long = length-replicate {A = ℕ} stride 0; first = λ i l. absurd (not-suc-le-zero l); second = λ i l. absurd (not-suc-le-zero l) }
+pub doubling-none : (n : ℕ) (starts w out : List ℕ) → Doubling n starts w out out 0
+doubling-none n starts w out = record { long = refl; first = λ i l. absurd (not-suc-le-zero l); second = λ i l. absurd (not-suc-le-zero l) }
 
-module _ {stride n : ℕ} {starts w out : List ℕ} {j : ℕ} (h : Doubling stride n starts w out j) where
+module _ {n : ℕ} {starts w out₀ out : List ℕ} {j : ℕ} (h : Doubling n starts w out₀ out j) where
   -- one more place
-  pub doubling-more : n + n ≤ stride → j < n → let x = place starts (place w j) + j in Doubling stride n starts w (set (set out j x) (n + j) (x + n)) (j + 1)
+  pub doubling-more : n + n ≤ length out₀ → j < n → let x = place starts (place w j) + j in Doubling n starts w out₀ (set (set out j x) (n + j) (x + n)) (j + 1)
   doubling-more small l =
       record {
         long = length-set (set out j x) (n + j) (x + n) ∙ length-set out j x ∙ h .long;
@@ -50,7 +49,7 @@ module _ {stride n : ℕ} {starts w out : List ℕ} {j : ℕ} (h : Doubling stri
           getD-set-other (set out j x) (n + j) (n + i) (x + n) 0 (omega arith) ∙ getD-set-other out j (n + i) x 0 (omega arith) ∙ h .second i (omega arith)
 
   -- after the last
-  pub doubling-end : n ≤ j → Offsets stride n starts w out
+  pub doubling-end : n ≤ j → Offsets n starts w out₀ out
   doubling-end l = record { long = h .long; offset = λ m b. go m b (decLt m n) }
     where
       go : (m : ℕ) → m < n + n → Dec (m < n) → place out m ≡ place starts (at n w m) + m

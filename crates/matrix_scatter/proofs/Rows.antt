@@ -4,13 +4,14 @@ use mathlib.Core.Path.{_≡_, refl, sym, ap, ap₂, _∙_}
 use mathlib.Core.Bool.{Bool, not, cond}
 use mathlib.Core.List.{List}
 use Prim.Native.Nat.{ℕ, zero, suc, _+_, _-_, _*_, _^_, _≤_, _<_}
-use native.Mathlib.Nat.{mul-le-mul, ne-of-gt}
+use native.Mathlib.Nat.{le-trans, mul-assoc, mul-le-mul-left, mul-le-mul-right, ne-of-gt}
 use native.Mathlib.Omega.{arith}
 use borrow.Author.Tests.{ne-eqb}
 use lib.ListN.{set, replicate}
 use Rattle.spec_range.proofs.Loop.{Held, held-none, held-more}
+use Rattle.sizes.specs.Blocks.{blocks}
+use Rattle.sizes.proofs.Lengths.{blocks-fit}
 use Rattle.word_array.specs.Stored.{place, Sizes}
-use Rattle.matrix_terms.proofs.Received.{order-le}
 use Rattle.matrix_scatter.specs.Scatter.{Logged, symbolRow, RowStarts}
 
 -- the row of 0
@@ -32,15 +33,20 @@ row-le {p} {logs} h (suc c) l = omega (arith, row-log p logs (suc c) (omega arit
 abbrev pub startOf : ℕ → ℕ → List ℕ → ℕ → ℕ
 startOf p n logs c = symbolRow p logs c * (n + 1)
 
+-- the longer a word, the fewer its rows: c rows for each symbol have at most 4096 * c places
+pub width-le : {p n : ℕ} → Sizes p n → (c : ℕ) {a : ℕ} → a ≤ c * 2 ^ p → a * (n + 1) ≤ c * 4096
+width-le {p} {n} s c l =
+    let b : n + 1 ≤ 64 * blocks n = omega (arith, blocks-fit (s .n-high)) in
+    let d : 2 ^ p * (n + 1) ≤ 4096 = omega (arith, mul-le-mul-left (2 ^ p) b, s .together) in
+    le-trans (mul-le-mul-right (n + 1) l) (rw mul-assoc (mul-le-mul-left c d))
+
 -- it fits
-pub start-le : {p n : ℕ} {logs : List ℕ} → Sizes p n → Logged p logs → (c : ℕ) → c < 2 ^ p → startOf p n logs c ≤ 8064
-start-le {p} {n} {logs} s h c l =
-    let a : symbolRow p logs c ≤ 126 = omega (arith, row-le h c l, order-le s) in
-    mul-le-mul {n₂ = 126} {m₂ = 64} a (omega (arith, s .n-high))
+pub start-le : {p n : ℕ} {logs : List ℕ} → Sizes p n → Logged p logs → (c : ℕ) → c < 2 ^ p → startOf p n logs c ≤ 8192
+start-le s h c l = width-le s 2 (omega (arith, row-le h c l))
 
 -- so does that of 0
-pub first-le : {p n : ℕ} → Sizes p n → (q : ℕ) → q ≡ 2 ^ p → 2 * (q - 1) * (n + 1) ≤ 8064
-first-le s q e = mul-le-mul {n₂ = 126} {m₂ = 64} (omega (arith, order-le s)) (omega (arith, s .n-high))
+pub first-le : {p n : ℕ} → Sizes p n → (q : ℕ) → q ≡ 2 ^ p → 2 * (q - 1) * (n + 1) ≤ 8192
+first-le s q e = width-le s 2 {a = 2 * (q - 1)} (omega arith)
 
 -- the start of 0 is written
 pub starts-first : (p n : ℕ) {q width : ℕ} (logs : List ℕ) → q ≡ 2 ^ p → width ≡ n + 1

@@ -9,6 +9,7 @@ use lib.Dec.{eqb}
 use lib.ListN.{length}
 use Rattle.spec_range.specs.Fold.{total, indicator}
 use Rattle.spec_word.specs.Word.{at, nonzero}
+use Rattle.sizes.specs.Blocks.{blocks}
 use Rattle.word_array.specs.Stored.{place, Sizes}
 use Rattle.matrix_terms.specs.Terms.{term}
 
@@ -28,11 +29,11 @@ pub record RowStarts (p n : ℕ) (logs starts : List ℕ) : Type 0 where
 -- what the offsets of a word of n symbols ask: each symbol has a start, and the offsets fit
 pub record Started (n : ℕ) (starts w : List ℕ) : Type 0 where
   pub symbol : (j : ℕ) → j < n → place w j < 64
-  pub small : (j : ℕ) → j < n → place starts (place w j) ≤ 8064
+  pub small : (j : ℕ) → j < n → place starts (place w j) ≤ 8192
 
--- the offsets of the word w twice over: place m has the start of its symbol's row, and m
-pub record Offsets (stride n : ℕ) (starts w cells : List ℕ) : Type 0 where
-  pub long : length cells ≡ stride
+-- the offsets of the word w twice over: place m has the start of its symbol's row, and m; the length is as before
+pub record Offsets (n : ℕ) (starts w cells₀ cells : List ℕ) : Type 0 where
+  pub long : length cells ≡ length cells₀
   pub offset : (m : ℕ) → m < n + n → place cells m ≡ place starts (at n w m) + m
 
 -- what raising four counters asks
@@ -67,22 +68,22 @@ rowsWith stride p row weight turns e j = total weight (λ i. indicator (eqb (row
 
 -- how many terms of dual word l count in the flat counter k: `cells` has the offsets of the product
 abbrev pub termsAdd : ℕ → ℕ → ℕ → ℕ → List ℕ → List ℕ → ℕ → ℕ
-termsAdd stride l p n cells terms k = rowsWith stride p (rowAt n cells) (place terms 0) (term terms l) (k / (n + 1)) (k % (n + 1))
+termsAdd stride l p n cells terms k = rowsWith stride p (rowAt n cells) (place terms 0) (term n terms l) (k / (n + 1)) (k % (n + 1))
 
 -- what counting the terms of dual word l asks
 pub record Countable (stride l p n : ℕ) (cells terms counts : List ℕ) : Type 0 where
   pub sizes : Sizes p n
   pub eights : (n + 1) % 8 ≡ 0
   pub low : l < 32
-  pub few : place terms 0 ≤ 63
+  pub few : place terms 0 ≤ n
   pub cells-long : n + n ≤ length cells
   pub row-le : (m : ℕ) → m < n + n → rowAt n cells m ≤ 2 * (2 ^ p - 1)
   pub cell-at : (m : ℕ) → m < n + n → place cells m ≡ rowAt n cells m * (n + 1) + m
-  pub terms-long : 2240 ≤ length terms
-  pub place-lt : (i : ℕ) → i < place terms 0 → term terms l i % stride < n
-  pub log-lt : (i : ℕ) → i < place terms 0 → term terms l i / stride + 1 < 2 ^ p
+  pub terms-long : 192 + 64 * blocks n * 32 ≤ length terms
+  pub place-lt : (i : ℕ) → i < place terms 0 → term n terms l i % stride < n
+  pub log-lt : (i : ℕ) → i < place terms 0 → term n terms l i / stride + 1 < 2 ^ p
   pub size : (3 * (2 ^ p - 1) + 1) * (n + 1) ≤ length counts
-  pub room : (k : ℕ) → place counts k ≤ 65200
+  pub room : (k : ℕ) → place counts k ≤ 64900
 
 -- n cells of m from `from` on became the sums of those of the counters from `low` and from `high` on; the others are as before
 pub record RowGathered (n from low high : ℕ) (counts m₀ m : List ℕ) : Type 0 where
@@ -96,7 +97,7 @@ pub record Gatherable (p n : ℕ) (logs counts m : List ℕ) : Type 0 where
   pub sizes : Sizes p n
   pub logged : Logged p logs
   pub long : (3 * (2 ^ p - 1) + 1) * (n + 1) ≤ length counts
-  pub small : (k : ℕ) → place counts k ≤ 2016
+  pub small : (k : ℕ) → place counts k ≤ 8160
   pub size : length m ≡ 2 ^ p * n
 
 -- the two counters of the symbol with the logarithm e

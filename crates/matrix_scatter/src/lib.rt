@@ -1,21 +1,22 @@
 // The frequency matrix where symbols are many: each nonzero place of a dual word raises one counter a column, in the row that logarithms tell.
 ghost use mathlib.Core.Path.{_≡_};
-ghost use Prim.Native.Nat.{ℕ, _+_, _%_, _≤_, _<_};
+ghost use Prim.Native.Nat.{ℕ, _+_, _-_, _*_, _%_, _^_, _≤_, _<_};
 ghost use lib.Dec.{eqb};
 ghost use lib.ListN.{length};
 ghost use Rattle.spec_range.specs.Fold.{total, indicator};
-ghost use Rattle.word_array.specs.Stored.{place, Sizes};
 ghost use Rattle.spec_word.specs.Word.{at};
+ghost use Rattle.sizes.specs.Blocks.{stride};
+ghost use Rattle.word_array.specs.Stored.{place, Sizes};
 ghost use Rattle.matrix_terms.specs.Count.{raised, counted};
 ghost use Rattle.matrix_terms.specs.Terms.{TermsOf, Filling};
 ghost use Rattle.matrix_scatter.specs.Scatter.{Logged, RowStarts, Started, Offsets, Four, fourAdds, Within, cellAdds};
 ghost use Rattle.matrix_scatter.specs.Scatter.{Countable, termsAdd, RowGathered, Gatherable, Gathered};
 ghost use Rattle.matrix_scatter.specs.Fill.{Cleared, Scattering, Scattered};
 use matrix_terms::TERMS_AT;
+use sizes::BLOCK;
 use sizes::SPAN;
 use sizes::STRIDE;
 use sizes::SYMBOLS;
-use sizes::Word;
 
 // The counters that a room has where they are few.
 const FEW_COUNTERS: usize = 3072;
@@ -54,11 +55,10 @@ fn row_starts(p: u8, n: usize, terms: &[u16]) -> [u16; SYMBOLS]
 }
 
 // The offsets of a word of n symbols, twice over.
-fn offsets(n: usize, starts: [u16; SYMBOLS], w: [u8; SPAN]) -> [u16; STRIDE]
-    requires { ⌜ (1 ≤ n) × (n ≤ 63) × Started n starts w ⌝ }
-    ensures { λ r. ⌜ Offsets 128 n starts w r ⌝ }
+fn offsets(n: usize, starts: [u16; SYMBOLS], w: &[u8], out: &mut [u16])
+    requires { ⌜ (n ≤ 255) × (n ≤ length (now w)) × (n + n ≤ length (now out)) × Started n starts (now w) ⌝ }
+    ensures { λ _. ⌜ Offsets n starts (now (w .entry)) (now (out .entry)) (now (out .exit)) ⌝ }
 {
-    let mut out = [0u16; STRIDE];
     let mut j = 0;
     while j < n {
         let to = starts[w[j] as usize] + (j as u16);
@@ -66,7 +66,6 @@ fn offsets(n: usize, starts: [u16; SYMBOLS], w: [u8; SPAN]) -> [u16; STRIDE]
         out[n + j] = to + (n as u16);
         j += 1;
     }
-    out
 }
 
 // Raises the counter at x.
@@ -107,7 +106,7 @@ fn count_eight(cells: &[u16], h: usize, base: usize, counts: &mut [u16])
 
 // Counts the offsets of n + 1 places from h on, eight at a time: column n is never read.
 fn count_cells(n: usize, cells: &[u16], h: usize, base: usize, counts: &mut [u16])
-    requires { ⌜ (n ≤ 63) × ((n + 1) % 8 ≡ 0) × Within (now cells) h base (n + 1) (now counts) 65400 ⌝ }
+    requires { ⌜ (n ≤ 255) × ((n + 1) % 8 ≡ 0) × Within (now cells) h base (n + 1) (now counts) 65200 ⌝ }
     ensures { λ _. ⌜ now (counts .exit) ≡ raised (now (counts .entry)) (λ k. total (n + 1) (cellAdds (now (cells .entry)) h base k)) ⌝ }
 {
     let mut j = 0;
@@ -119,17 +118,19 @@ fn count_cells(n: usize, cells: &[u16], h: usize, base: usize, counts: &mut [u16
 
 // Counts the terms of dual word l: `cells` has the offsets of its product with the received word.
 fn count_dual(l: usize, p: u8, n: usize, cells: &[u16], terms: &[u16], counts: &mut [u16])
-    requires { ⌜ Countable 128 l p n (now cells) (now terms) (now counts) ⌝ }
-    ensures { λ _. ⌜ now (counts .exit) ≡ raised (now (counts .entry)) (termsAdd 128 l p n (now (cells .entry)) (now (terms .entry))) ⌝ }
+    requires { ⌜ Countable (stride n) l p n (now cells) (now terms) (now counts) ⌝ }
+    ensures { λ _. ⌜ now (counts .exit) ≡ raised (now (counts .entry)) (termsAdd (stride n) l p n (now (cells .entry)) (now (terms .entry))) ⌝ }
 {
     let last = sizes::wide(field::order(p)) - 1;
     let weight = terms[0] as usize;
-    let from = TERMS_AT + SPAN * l;
+    let from = TERMS_AT + BLOCK * sizes::blocks(n) * l;
+    let shift = sizes::shift(n);
     let mut i = 0;
     while i < weight {
         let t = terms[from + i] as usize;
-        let h = t % STRIDE;
-        let base = (last - t / STRIDE) * (n + 1) - h;
+        let log = t >> shift;
+        let h = t - (log << shift);
+        let base = (last - log) * (n + 1) - h;
         count_cells(n, cells, h, base, counts);
         i += 1;
     }
@@ -137,7 +138,7 @@ fn count_dual(l: usize, p: u8, n: usize, cells: &[u16], terms: &[u16], counts: &
 
 // A row of the matrix: each entry is the sum of two counters.
 fn gather_row(n: usize, from: usize, low: usize, high: usize, counts: &[u16], m: &mut [u16])
-    requires { ⌜ (from + n ≤ length (now m)) × (low + n ≤ length (now counts)) × (high + n ≤ length (now counts)) × ((k : ℕ) → place (now counts) k ≤ 2016) ⌝ }
+    requires { ⌜ (from + n ≤ length (now m)) × (low + n ≤ length (now counts)) × (high + n ≤ length (now counts)) × ((k : ℕ) → place (now counts) k ≤ 8160) ⌝ }
     ensures { λ _. ⌜ RowGathered n from low high (now (counts .entry)) (now (m .entry)) (now (m .exit)) ⌝ }
 {
     let mut j = 0;
@@ -162,43 +163,69 @@ fn gather(p: u8, n: usize, terms: &[u16], counts: &[u16], m: &mut [u16])
 }
 
 // Counts the terms of all dual words.
-fn count_duals(p: u8, n: usize, duals: usize, terms: &[u16], r: Word, counts: &mut [u16])
-    requires { ⌜ Scattering 128 p n duals (now terms) r (now counts) ⌝ }
-    ensures { λ _. ⌜ Scattered 128 p n duals (now (terms .entry)) r (now (counts .exit)) ⌝ }
+fn count_duals(p: u8, n: usize, duals: usize, terms: &[u16], r: &[u8], counts: &mut [u16])
+    requires { ⌜ Scattering (stride n) p n duals (now terms) (now r) (now counts) ⌝ }
+    ensures { λ _. ⌜ Scattered (stride n) p n duals (now (terms .entry)) (now (r .entry)) (now (counts .exit)) ⌝ }
 {
     let starts = row_starts(p, n, terms);
     let mut t = word_table::table_room();
-    word_table::tabulate(p, n, word_table::widened(n, r), &mut t);
+    word_table::tabulate(p, n, r, 0, &mut t);
+    let mut w = [0u8; SPAN];
+    let mut cells = [0u16; STRIDE];
     let mut l = 0;
     while l < duals {
-        let w = matrix_terms::product(l, p, n, duals, terms, &t);
-        let cells = offsets(n, starts, w);
+        matrix_terms::product(l, p, n, duals, terms, &t, &mut w);
+        offsets(n, starts, &w, &mut cells);
         count_dual(l, p, n, &cells, terms, counts);
         l += 1;
     }
 }
 
 // Fills the matrix by counters that are all zero.
-fn fill_by(p: u8, n: usize, duals: usize, terms: &[u16], r: Word, counts: &mut [u16], m: &mut [u16])
-    requires { ⌜ Filling 128 p n duals (now terms) r (now m) × ((n + 1) % 8 ≡ 0) × Cleared p n (now counts) ⌝ }
-    ensures { λ _. ⌜ ((b : ℕ → ℕ → ℕ) → TermsOf 128 p n duals b (now (terms .entry)) → now (m .exit) ≡ counted p n b duals (at n r)) ⌝ }
+fn fill_by(
+    p: u8,
+    n: usize,
+    duals: usize,
+    terms: &[u16],
+    r: &[u8],
+    counts: &mut [u16],
+    m: &mut [u16],
+)
+    requires { ⌜ Filling (stride n) p n duals (now terms) (now r) (now m) × ((n + 1) % 8 ≡ 0) × Cleared p n (now counts) ⌝ }
+    ensures { λ _. ⌜ ((b : ℕ → ℕ → ℕ) → TermsOf (stride n) p n duals b (now (terms .entry)) → now (m .exit) ≡ counted p n b duals (at n (now (r .entry)))) ⌝ }
 {
     count_duals(p, n, duals, terms, r, counts);
     gather(p, n, terms, counts, m);
     matrix_terms::row_zero(p, n, (duals as u16) * terms[0], m);
 }
 
+// Fills the matrix where counters are few.
+fn fill_few(p: u8, n: usize, duals: usize, terms: &[u16], r: &[u8], m: &mut [u16])
+    requires { ⌜ Filling (stride n) p n duals (now terms) (now r) (now m) × ((n + 1) % 8 ≡ 0) × ((3 * (2 ^ p - 1) + 1) * (n + 1) ≤ 3072) ⌝ }
+    ensures { λ _. ⌜ ((b : ℕ → ℕ → ℕ) → TermsOf (stride n) p n duals b (now (terms .entry)) → now (m .exit) ≡ counted p n b duals (at n (now (r .entry)))) ⌝ }
+{
+    let mut counts = small_room();
+    fill_by(p, n, duals, terms, r, &mut counts, m);
+}
+
+// Fills the matrix where counters are many.
+fn fill_many(p: u8, n: usize, duals: usize, terms: &[u16], r: &[u8], m: &mut [u16])
+    requires { ⌜ Filling (stride n) p n duals (now terms) (now r) (now m) × ((n + 1) % 8 ≡ 0) ⌝ }
+    ensures { λ _. ⌜ ((b : ℕ → ℕ → ℕ) → TermsOf (stride n) p n duals b (now (terms .entry)) → now (m .exit) ≡ counted p n b duals (at n (now (r .entry)))) ⌝ }
+{
+    let mut counts = large_room();
+    fill_by(p, n, duals, terms, r, &mut counts, m);
+}
+
 // Fills the matrix of the word r, where n + 1 is a multiple of 8.
-pub fn fill(p: u8, n: usize, duals: usize, terms: &[u16], r: Word, m: &mut [u16])
-    requires { ⌜ Filling 128 p n duals (now terms) r (now m) × ((n + 1) % 8 ≡ 0) ⌝ }
-    ensures { λ _. ⌜ ((b : ℕ → ℕ → ℕ) → TermsOf 128 p n duals b (now (terms .entry)) → now (m .exit) ≡ counted p n b duals (at n r)) ⌝ }
+pub fn fill(p: u8, n: usize, duals: usize, terms: &[u16], r: &[u8], m: &mut [u16])
+    requires { ⌜ Filling (stride n) p n duals (now terms) (now r) (now m) × ((n + 1) % 8 ≡ 0) ⌝ }
+    ensures { λ _. ⌜ ((b : ℕ → ℕ → ℕ) → TermsOf (stride n) p n duals b (now (terms .entry)) → now (m .exit) ≡ counted p n b duals (at n (now (r .entry)))) ⌝ }
 {
     let rows = 3 * (sizes::wide(field::order(p)) - 1) + 1;
     if rows * (n + 1) <= FEW_COUNTERS {
-        let mut counts = small_room();
-        fill_by(p, n, duals, terms, r, &mut counts, m);
+        fill_few(p, n, duals, terms, r, m);
     } else {
-        let mut counts = large_room();
-        fill_by(p, n, duals, terms, r, &mut counts, m);
+        fill_many(p, n, duals, terms, r, m);
     }
 }

@@ -18,8 +18,8 @@ use Rattle.spec_range.proofs.Loop.{fold-none, fold-more}
 use Rattle.spec_word.specs.Word.{nonzero}
 use Rattle.word_array.specs.Stored.{place}
 
-pub record Listing (size n : ℕ) (b : ℕ → ℕ) (places : List ℕ) (count h : ℕ) : Type 0 where
-  pub long : length places ≡ size
+pub record Listing (n : ℕ) (b : ℕ → ℕ) (places : List ℕ) (count h : ℕ) : Type 0 where
+  pub long : length places ≡ n
   pub within : h ≤ n
   pub count-le : count ≤ h
   pub place-lt : (i : ℕ) → i < count → place places i < h
@@ -27,17 +27,17 @@ pub record Listing (size n : ℕ) (b : ℕ → ℕ) (places : List ℕ) (count h
       → fold op e count (λ i. f (place places i)) ≡ fold op e h (λ h. cond (nonzero (b h)) (f h) e)
 
 -- before the first place nothing is listed
-pub listing-none : (size n : ℕ) (b : ℕ → ℕ) → Listing size n b (replicate size 0) 0 0
-listing-none size n b =
+pub listing-none : (n : ℕ) (b : ℕ → ℕ) → Listing n b (replicate n 0) 0 0
+listing-none n b =
     record {
-      long = length-replicate size 0;
+      long = length-replicate n 0;
       within = zero-le;
       count-le = zero-le;
       place-lt = λ i l. absurd (not-suc-le-zero l);
       folds = λ op e unit f. fold-none op e _ ∙ sym (fold-none op e _);
     }
 
-module _ {size n : ℕ} {b : ℕ → ℕ} {places : List ℕ} {count h : ℕ} (s : Listing size n b places count h) where
+module _ {n : ℕ} {b : ℕ → ℕ} {places : List ℕ} {count h : ℕ} (s : Listing n b places count h) where
   pub listing-fits : h < n → Fits w64 n → (t : Bool) → Fits w64 (count + boolByte t)
   listing-fits l f true = omega (arith, s .count-le)
   listing-fits l f false = omega (arith, s .count-le)
@@ -50,7 +50,7 @@ module _ {size n : ℕ} {b : ℕ → ℕ} {places : List ℕ} {count h : ℕ} (s
       s .folds op u unit f ∙ ap (λ (m : ℕ). fold op u m (λ h. cond (nonzero (b h)) (f h) u)) e
       ∙ fold-cong op u n (λ j d. ap (λ (x : ℕ). cond (nonzero x) (f j) u) (same j d))
 
-  module _ (l : h < n) (room : h < size) where
+  module _ (l : h < n) where
     free : count < length places
     free = omega (arith, s .count-le, s .long)
 
@@ -61,7 +61,7 @@ module _ {size n : ℕ} {b : ℕ → ℕ} {places : List ℕ} {count h : ℕ} (s
     kept i d = getD-set-other places count i h 0 (ne-of-lt d)
 
     -- the place counts
-    taken : nonzero (b h) ≡ true → Listing size n b written (count + 1) (h + 1)
+    taken : nonzero (b h) ≡ true → Listing n b written (count + 1) (h + 1)
     taken t =
         record {
           long = length-set places count h ∙ s .long;
@@ -80,7 +80,7 @@ module _ {size n : ℕ} {b : ℕ → ℕ} {places : List ℕ} {count h : ℕ} (s
         }
 
     -- it does not, and is written over or beyond the list
-    left : nonzero (b h) ≡ false → Listing size n b written count (h + 1)
+    left : nonzero (b h) ≡ false → Listing n b written count (h + 1)
     left t =
         record {
           long = length-set places count h ∙ s .long;
@@ -93,9 +93,9 @@ module _ {size n : ℕ} {b : ℕ → ℕ} {places : List ℕ} {count h : ℕ} (s
               ∙ unit (fold op e h (λ h. cond (nonzero (b h)) (f h) e)));
         }
 
-    pub listing-more : Listing size n b (set places count h) (count + boolByte (nonzero (b h))) (h + 1)
+    pub listing-more : Listing n b (set places count h) (count + boolByte (nonzero (b h))) (h + 1)
     listing-more = go (nonzero (b h)) refl
       where
-        go : (t : Bool) → nonzero (b h) ≡ t → Listing size n b written (count + boolByte t) (h + 1)
+        go : (t : Bool) → nonzero (b h) ≡ t → Listing n b written (count + boolByte t) (h + 1)
         go true e = taken e
-        go false e = subst (λ (m : ℕ). Listing size n b written m (h + 1)) (sym (add-zero count)) (left e)
+        go false e = subst (λ (m : ℕ). Listing n b written m (h + 1)) (sym (add-zero count)) (left e)

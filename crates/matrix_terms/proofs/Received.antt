@@ -1,14 +1,15 @@
--- How many symbols there are, and that the received word, widened for its table of multiples, is the word of the table.
+-- How many symbols there are, and that the received word is the word of its table of multiples.
 -- Assumes nothing.
-use mathlib.Core.Path.{_≡_, sym, ap, _∙_, fun-ext, subst}
+use mathlib.Core.Path.{_≡_, ap, _∙_, fun-ext}
 use mathlib.Core.List.{List}
-use Prim.Native.Nat.{ℕ, _^_, _≤_}
+use Prim.Native.Nat.{ℕ, _+_, _*_, _^_, _≤_}
+use native.Mathlib.Nat.{zero-add}
+use native.Mathlib.Omega.{arith}
 use lib.Pow.{pow-mono}
-use Rattle.spec_range.specs.Table.{padded}
+use Rattle.sizes.specs.Blocks.{stride}
 use Rattle.spec_word.specs.Word.{at}
-use Rattle.word_array.specs.Stored.{place, Sizes, Stored}
+use Rattle.word_array.specs.Stored.{place, Sizes}
 use Rattle.word_table.specs.Multiples.{wordOf, Tabled}
-use Rattle.word_table.proofs.Tables.{widened-stored, widened-at}
 
 -- there are from 2 to 64 symbols
 pub order-low : {p n : ℕ} → Sizes p n → 2 ≤ 2 ^ p
@@ -17,12 +18,11 @@ order-low s = pow-mono (s .p-low)
 pub order-le : {p n : ℕ} → Sizes p n → 2 ^ p ≤ 64
 order-le s = pow-mono (s .p-high)
 
-module _ {p n : ℕ} (span : ℕ) (s : Sizes p n) (short : n ≤ span) (r : List ℕ) {w : List ℕ} (e : w ≡ padded span n (place r)) where
-  -- it has symbols only
-  pub word-stored : Stored p n r → Stored p span w
-  word-stored ok = subst (Stored p span) (sym e) (widened-stored p span n r short ok)
+-- a row for each has at most 8192 places in all
+pub table-le : {p n : ℕ} → Sizes p n → stride n * 2 ^ p ≤ 8192
+table-le s = omega (arith, s .together)
 
-  -- and is read from the table
-  pub word-read : {stride : ℕ} {t₀ t : List ℕ} → Tabled stride p n w t₀ t → wordOf stride n t ≡ at n r
-  word-read h =
-      fun-ext (λ j. h .word j ∙ ap (λ (w : List ℕ). at n w j) e ∙ widened-at span n r (s .n-low) short j)
+-- the word is read from its table
+pub word-read : {stride p n : ℕ} (r : List ℕ) {t₀ t : List ℕ} → Tabled stride p n (λ j. place r (0 + j)) t₀ t → wordOf stride n t ≡ at n r
+unfolding at
+word-read r h = fun-ext (λ j. h .word j ∙ ap (place r) (zero-add _))

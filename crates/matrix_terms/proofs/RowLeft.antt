@@ -52,7 +52,7 @@ subtracted ok l h = record { long = h .long ∙ ok .long; less = λ k d. omega (
 -- of `rows` rows from 1 on the first i are subtracted from `all` in each column
 pub record RowsLeft (m : List ℕ) (n rows all i : ℕ) (left : List ℕ) : Type 0 where
   pub within : i ≤ rows
-  pub long : length left ≡ 64
+  pub long : length left ≡ 256
   pub parts : (j : ℕ) → j < n → place left j + total i (λ i. place m ((1 + i) * n + j)) ≡ all
 
 -- every place of a list of equal numbers
@@ -62,12 +62,12 @@ repeated (suc size) x {k = zero} l = refl
 repeated (suc size) x {k = suc k} l = repeated size x (omega arith)
 
 -- before the first row
-pub rows-left-none : (m : List ℕ) (n rows all : ℕ) → n ≤ 63 → RowsLeft m n rows all 0 (replicate 64 all)
+pub rows-left-none : (m : List ℕ) (n rows all : ℕ) → n ≤ 255 → RowsLeft m n rows all 0 (replicate 256 all)
 rows-left-none m n rows all few =
     record {
       within = zero-le;
-      long = length-replicate {A = ℕ} 64 all;
-      parts = λ j l. omega (arith, repeated 64 all {k = j} (omega arith), fold-none _+_ 0 (λ i. place m ((1 + i) * n + j)));
+      long = length-replicate {A = ℕ} 256 all;
+      parts = λ j l. omega (arith, repeated 256 all {k = j} (omega arith), fold-none _+_ 0 (λ i. place m ((1 + i) * n + j)));
     }
 
 module _ {p n : ℕ} (s : Sizes p n) (m : List ℕ) (size : length m ≡ 2 ^ p * n) {rows : ℕ} (most : rows + 1 ≡ 2 ^ p) where

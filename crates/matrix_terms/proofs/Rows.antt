@@ -5,36 +5,28 @@ use mathlib.Core.Bool.{Bool, true, false, not}
 use mathlib.Core.List.{List}
 use mathlib.Core.Logic.{_⊎_, ⊎-elim}
 use Prim.Native.Nat.{ℕ, _+_, _-_, _*_, _%_, _^_, _≤_, _<_, zero-le}
-use native.Mathlib.Nat.{not-suc-le-zero, mod-eq-of-lt, eq-or-lt-of-le, le-of-suc-le-suc, ne-of-lt}
+use native.Mathlib.Nat.{le-trans, not-suc-le-zero, mod-eq-of-lt, eq-or-lt-of-le, le-of-suc-le-suc, ne-of-lt}
 use native.Mathlib.Numerals.{add-one}
 use native.Mathlib.Decide.{decLt, ℕ-discrete}
 use native.Mathlib.Omega.{arith}
 use borrow.Author.Tests.{eq-eqb}
 use lib.ListN.{length, set, length-set, replicate}
 use lib.Seq.{getD-set-same, getD-set-other}
-use lib.Pow.{pow-mono}
+use lib.Pow.{pow-pos, pow-mono}
 use mir.Val.{boolByte}
 use Rattle.spec_word.specs.Word.{nonzero, weight}
+use Rattle.sizes.specs.Blocks.{blocks, span}
+use Rattle.sizes.proofs.Lengths.{blocks-fit}
 use Rattle.word_array.specs.Stored.{place, Sizes}
+use Rattle.word_table.proofs.Rows.{rows-apart}
 use Rattle.field_powers.specs.Powers.{power, PowersOf, PowersPut}
-use Rattle.spec_book.specs.Layout.{bookOf}
+use Rattle.spec_book.specs.Layout.{bookOf, width, dualAt, bodyPlace}
 use Rattle.matrix_terms.specs.Terms.{Places, Turns, dualOf, term, RowOf, TermsOf, Kept, unlisted, already}
 use Rattle.matrix_terms.specs.Listed.{DualIn, RowIn, Listable, DualListed}
 use Rattle.matrix_terms.proofs.Digits.{log-of, place-of}
+use Rattle.matrix_terms.proofs.Received.{table-le}
 use Rattle.matrix_terms.proofs.Listing.{Listing, listing-none, listing-more, listing-end}
 use Rattle.matrix_terms.proofs.Whole.{places-weight}
-
--- a dual word is read where it lies in the book
-pub dual-byte : {bytes : List ℕ} {p n l : ℕ} → DualIn bytes p n l → {j : ℕ} → j < n → place bytes (71 + 64 * l + j) ≡ dualOf bytes l j
-unfolding bookOf
-dual-byte {bytes} {n = n} {l = l} ok {j} d =
-    ap (place bytes) (omega (arith, mod-eq-of-lt d, ap (λ (x : ℕ). j % x) (ok .length-is)))
-
--- and has symbols below 64
-pub dual-small : {bytes : List ℕ} {p n l : ℕ} → DualIn bytes p n l → {j : ℕ} → j < n → place bytes (71 + 64 * l + j) < 64
-dual-small {p = p} ok {j} d =
-    let high : 2 ^ p ≤ 2 ^ 6 = pow-mono (ok .sizes .p-high) in
-    omega (arith, dual-byte ok d, ok .symbol j)
 
 -- ---- one dual word
 
@@ -45,7 +37,7 @@ termOf stride logs b h = stride * place logs (b h) + h
 -- the terms of the nonzero places below h are in the row that starts at `from`; `places` are these
 pub record Written (stride n : ℕ) (b : ℕ → ℕ) (from : ℕ) (terms₀ : List ℕ) (count h : ℕ) (terms : List ℕ) : Type 0 where
   pub places : List ℕ
-  pub listing : Listing 64 n b places count h
+  pub listing : Listing n b places count h
   pub symbol-pos : (i : ℕ) → i < count → 0 < b (place places i)
   pub long : length terms ≡ length terms₀
   pub low : (k : ℕ) → k < from → place terms k ≡ place terms₀ k
@@ -55,8 +47,8 @@ pub record Written (stride n : ℕ) (b : ℕ → ℕ) (from : ℕ) (terms₀ : L
 pub written-none : (stride n : ℕ) (b : ℕ → ℕ) (from : ℕ) (terms : List ℕ) → Written stride n b from terms 0 0 terms
 written-none stride n b from terms =
     record {
-      places = replicate 64 0;
-      listing = listing-none 64 n b;
+      places = replicate n 0;
+      listing = listing-none n b;
       symbol-pos = λ i l. absurd (not-suc-le-zero l);
       long = refl;
       low = λ k l. refl;
@@ -86,9 +78,9 @@ byte-le true = omega arith
 byte-le false = omega arith
 
 module _ {stride n : ℕ} {b : ℕ → ℕ} {from : ℕ} {terms₀ : List ℕ} {count h : ℕ} {terms : List ℕ}
-    (s : Written stride n b from terms₀ count h terms) (few : n ≤ 63) (l : h < n) where
+    (s : Written stride n b from terms₀ count h terms) (l : h < n) where
   -- the place written is in the room
-  pub term-in : from + 64 ≤ length terms₀ → from + count < length terms
+  pub term-in : from + n ≤ length terms₀ → from + count < length terms
   term-in room = omega (arith, s .long, s .listing .count-le)
 
   -- there is room for one more place
@@ -110,55 +102,75 @@ module _ {stride n : ℕ} {b : ℕ → ℕ} {from : ℕ} {terms₀ : List ℕ} {
       go z = old (decLt i count) z
 
   -- one more place
-  pub written-more : {v : ℕ} → from + 64 ≤ length terms₀ → v ≡ termOf stride terms₀ b h
+  pub written-more : {v : ℕ} → from + n ≤ length terms₀ → v ≡ termOf stride terms₀ b h
       → Written stride n b from terms₀ (count + boolByte (nonzero (b h))) (h + 1) (set terms (from + count) v)
   written-more {v} room e =
       record {
         places = set (s .places) count h;
-        listing = listing-more (s .listing) l (omega arith);
+        listing = listing-more (s .listing) l;
         symbol-pos = positive;
         long = length-set terms (from + count) v ∙ s .long;
         low = λ k d. getD-set-other terms (from + count) k v 0 (omega arith) ∙ s .low k d;
         turn-at = λ i d. row-more (termOf stride terms₀ b) from terms (s .places) free (term-in room) e (s .turn-at) i (omega (arith, byte-le (nonzero (b h))));
       }
 
-module _ {bytes : List ℕ} {stride p n l : ℕ} (ok : DualIn bytes p n l) {terms₀ : List ℕ} {count h : ℕ} {terms : List ℕ}
-    (s : Written stride n (λ j. place bytes (71 + 64 * l + j)) (192 + 64 * l) terms₀ count h terms) where
-  -- the number read for the next symbol is the one that stood there
-  pub log-kept : h < n → place terms (place bytes (71 + 64 * l + h)) ≡ place terms₀ (place bytes (71 + 64 * l + h))
-  log-kept d = s .low _ (omega (arith, dual-small ok d))
+-- dual word l, which is read from `start` on, and whose terms are written from `from` on
+module _ {bytes : List ℕ} {p n l start from : ℕ} (ok : DualIn bytes p n l) (starts : start ≡ dualAt (width bytes) l + 1)
+    (goes : from ≡ 192 + span n * l) where
+  dual-byte : {j : ℕ} → j < n → place bytes (start + j) ≡ dualOf bytes l j
+  unfolding bookOf
+  dual-byte {j} d = ap (λ (k : ℕ). place bytes (k + j)) starts
+      ∙ ap (bodyPlace bytes (dualAt (width bytes) l)) (sym (mod-eq-of-lt d) ∙ ap (λ (x : ℕ). j % x) (ok .length-is))
 
-  -- and it is small
-  pub number-small : RowIn p l terms₀ → h < n → place terms (place bytes (71 + 64 * l + h)) < 64
-  number-small room d = omega (arith, log-kept d, room .small (place bytes (71 + 64 * l + h)) (omega (arith, dual-byte ok d, ok .symbol h)))
+  dual-symbol : {j : ℕ} → j < n → place bytes (start + j) < 2 ^ p
+  dual-symbol {j} d = subst (λ (x : ℕ). x < 2 ^ p) (sym (dual-byte d)) (ok .symbol j)
 
-  -- a place listed is below n
-  low : n ≤ h → (i : ℕ) → i < count → place (s .places) i < n
-  low end i d = omega (arith, s .listing .place-lt i d, s .listing .within)
+  pub dual-small : {j : ℕ} → j < n → place bytes (start + j) < 64
+  dual-small d = let high : 2 ^ p ≤ 2 ^ 6 = pow-mono (ok .sizes .p-high) in omega (arith, dual-symbol d)
 
-  -- the places listed are those of the dual word
-  listed : n ≤ h → Places n (dualOf bytes l) count
-  listed end =
-      record {
-        place-at = place (s .places);
-        few = omega (arith, s .listing .count-le, s .listing .within);
-        place-lt = low end;
-        symbol-pos = λ i d. subst (λ (x : ℕ). 0 < x) (dual-byte ok (low end i d)) (s .symbol-pos i d);
-        folds = listing-end (s .listing) end (λ j d. dual-byte ok d);
-      }
+  module _ {stride : ℕ} {terms₀ : List ℕ} {count h : ℕ} {terms : List ℕ} (s : Written stride n (λ j. place bytes (start + j)) from terms₀ count h terms) where
+    -- the number read for the next symbol is the one that stood there
+    pub log-kept : h < n → place terms (place bytes (start + h)) ≡ place terms₀ (place bytes (start + h))
+    log-kept d = s .low _ (omega (arith, dual-small d))
 
-  -- after the last place
-  pub written-end : n ≤ h → DualListed stride bytes n l count terms₀ terms
-  unfolding listed
-  written-end end =
-      record {
-        long = s .long;
-        low = s .low;
-        turns-of = record {
-          places = listed end;
-          turn-at = λ i d. s .turn-at i d ∙ ap (λ (x : ℕ). stride * place terms₀ x + place (s .places) i) (dual-byte ok (low end i d));
-        };
-      }
+    -- and it is small
+    number-small : RowIn p n l terms₀ → h < n → place terms (place bytes (start + h)) < 2 ^ p
+    number-small room d = subst (λ (x : ℕ). x < 2 ^ p) (sym (log-kept d)) (room .small _ (dual-symbol d))
+
+    -- so that its term is
+    pub term-small : RowIn p n l terms₀ → h < n → {x : ℕ} → x ≡ blocks n → 128 * x * place terms (place bytes (start + h)) + 128 * x ≤ 8192
+    term-small room d {x} e = subst (λ (y : ℕ). 128 * y * place terms (place bytes (start + h)) + 128 * y ≤ 8192) (sym e)
+        (le-trans (rows-apart (128 * blocks n) (number-small room d)) (table-le (ok .sizes)))
+
+    -- a place listed is below n
+    low : n ≤ h → (i : ℕ) → i < count → place (s .places) i < n
+    low end i d = omega (arith, s .listing .place-lt i d, s .listing .within)
+
+    -- the places listed are those of the dual word
+    listed : n ≤ h → Places n (dualOf bytes l) count
+    listed end =
+        record {
+          place-at = place (s .places);
+          few = omega (arith, s .listing .count-le, s .listing .within);
+          place-lt = low end;
+          symbol-pos = λ i d. subst (λ (x : ℕ). 0 < x) (dual-byte (low end i d)) (s .symbol-pos i d);
+          folds = listing-end (s .listing) end (λ j d. dual-byte d);
+        }
+
+    -- after the last place
+    pub written-end : n ≤ h → DualListed stride bytes n l count terms₀ terms
+    unfolding listed
+    written-end end =
+        record {
+          long = s .long;
+          low = λ k d. s .low k (omega arith);
+          turns-of = record {
+            places = listed end;
+            turn-at = λ i d.
+                ap (λ (k : ℕ). place terms (k + i)) (sym goes) ∙ s .turn-at i d
+                ∙ ap (λ (x : ℕ). stride * place terms₀ x + place (s .places) i) (dual-byte (low end i d));
+          };
+        }
 
 -- ---- a room by its rows
 
@@ -166,7 +178,7 @@ module _ {bytes : List ℕ} {stride p n l : ℕ} (ok : DualIn bytes p n l) {term
 pub record Based (p n duals : ℕ) (terms : List ℕ) : Type 0 where
   pub sizes : Sizes p n
   pub few-duals : duals ≤ 32
-  pub long : 2240 ≤ length terms
+  pub long : 192 + span n * 32 ≤ length terms
   pub powers : PowersOf p terms
   pub few : place terms 0 ≤ n
 
@@ -218,7 +230,7 @@ pub record ListedTo (stride : ℕ) (bytes : List ℕ) (n duals : ℕ) (terms₀ 
   pub long : length terms ≡ length terms₀
   pub low : (k : ℕ) → k < 192 → place terms k ≡ place terms₀ k
   pub last-is : 0 < l → last ≡ weight n (dualOf bytes 0)
-  pub turns-of : (i : ℕ) → i < l → Turns stride n (dualOf bytes i) terms₀ (weight n (dualOf bytes 0)) (term terms i)
+  pub turns-of : (i : ℕ) → i < l → Turns stride n (dualOf bytes i) terms₀ (weight n (dualOf bytes 0)) (term n terms i)
 
 -- before the first
 pub listed-none : (stride : ℕ) (bytes : List ℕ) (n duals : ℕ) (terms : List ℕ) (last : ℕ) → ListedTo stride bytes n duals terms last 0 terms
@@ -231,7 +243,7 @@ listed-none stride bytes n duals terms last =
       turns-of = λ i l. absurd (not-suc-le-zero l);
     }
 
-module _ {bytes : List ℕ} {stride p n duals : ℕ} (ok : Listable bytes p n duals) {old terms₀ : List ℕ} (room : 2240 ≤ length old)
+module _ {bytes : List ℕ} {stride p n duals : ℕ} (ok : Listable bytes p n duals) {old terms₀ : List ℕ} (room : 192 + span n * 32 ≤ length old)
     (put : PowersPut p old terms₀) {last l : ℕ} {terms : List ℕ} (h : ListedTo stride bytes n duals terms₀ last l terms) where
   -- there are at most 64 symbols
   most : 2 ^ p ≤ 64
@@ -239,18 +251,19 @@ module _ {bytes : List ℕ} {stride p n duals : ℕ} (ok : Listable bytes p n du
 
   -- the next dual word can be listed
   pub dual-in : l < duals → DualIn bytes p n l
-  dual-in d = record { sizes = ok .sizes; length-is = ok .length-is; within = ok .within l d; symbol = λ j. ok .symbol l j d }
+  dual-in d =
+      record { sizes = ok .sizes; length-is = ok .length-is; few = omega (arith, ok .duals-high); within = ok .within l d; symbol = λ j. ok .symbol l j d }
 
-  pub row-in : l < duals → RowIn p l terms
+  pub row-in : l < duals → RowIn p n l terms
   row-in d =
       record {
-        within = omega (arith, h .long, put .long, ok .duals-high);
-        small = λ c a. subst (λ (x : ℕ). x < 64) (sym (h .low c (omega (arith, most)))) (number c a (ℕ-discrete c 0));
+        within = let few : l < 32 = omega (arith, ok .duals-high) in omega (arith, h .long, put .long, rows-apart (span n) few);
+        small = λ c a. subst (λ (x : ℕ). x < 2 ^ p) (sym (h .low c (omega (arith, most)))) (number c a (ℕ-discrete c 0));
       }
     where
-      number : (c : ℕ) → c < 2 ^ p → Dec (c ≡ 0) → place terms₀ c < 64
-      number c a (yes z) = omega (arith, ap (place terms₀) z, put .zero-is)
-      number c a (no z) = omega (arith, put .powers .log-lt c (omega arith) a, most)
+      number : (c : ℕ) → c < 2 ^ p → Dec (c ≡ 0) → place terms₀ c < 2 ^ p
+      number c a (yes z) = omega (arith, ap (place terms₀) z, put .zero-is, pow-pos p)
+      number c a (no z) = omega (arith, put .powers .log-lt c (omega arith) a)
 
   -- one more
   pub listed-more : {w : ℕ} {terms′ : List ℕ} → l < duals → DualListed stride bytes n l w terms terms′
@@ -262,10 +275,10 @@ module _ {bytes : List ℕ} {stride p n duals : ℕ} (ok : Listable bytes p n du
         low = λ k a. more .low k (omega arith) ∙ h .low k a;
         last-is = λ _. one;
         turns-of = λ i a. ⊎-elim
-            (λ q. subst (λ (i : ℕ). Turns stride n (dualOf bytes i) terms₀ all (term terms′ i)) (sym q)
-            (subst (λ (x : ℕ). Turns stride n (dualOf bytes l) terms₀ x (term terms′ l)) one
+            (λ q. subst (λ (i : ℕ). Turns stride n (dualOf bytes i) terms₀ all (term n terms′ i)) (sym q)
+            (subst (λ (x : ℕ). Turns stride n (dualOf bytes l) terms₀ x (term n terms′ l)) one
             (turns-same (more .turns-of) (λ j _. sym (h .low _ (omega (arith, ok .symbol l j d, most)))) (λ i _. refl))))
-            (λ a. turns-same (h .turns-of i a) (λ j _. refl) (λ k c. more .low (192 + 64 * i + k) (below i k a (h .turns-of i a .places .few) c)))
+            (λ a. turns-same (h .turns-of i a) (λ j _. refl) (λ k c. more .low (192 + span n * i + k) (below i k a (h .turns-of i a .places .few) c)))
             (eq-or-lt-of-le (le-of-suc-le-suc (subst (λ (m : ℕ). i < m) (add-one l) a)));
       }
     where
@@ -275,8 +288,8 @@ module _ {bytes : List ℕ} {stride p n duals : ℕ} (ok : Listable bytes p n du
       one : w ≡ all
       one = sym (places-weight (more .turns-of .places)) ∙ ok .one-weight l d
 
-      below : (i k : ℕ) → i < l → all ≤ n → k < all → 192 + 64 * i + k < 192 + 64 * l
-      below i k a few c = omega (arith, ok .sizes .n-high)
+      below : (i k : ℕ) → i < l → all ≤ n → k < all → 192 + span n * i + k < 192 + span n * l
+      below i k a few c = omega (arith, blocks-fit (ok .sizes .n-high), rows-apart (span n) a)
 
   -- after the last
   module _ (end : duals ≤ l) where
@@ -311,9 +324,9 @@ module _ {bytes : List ℕ} {stride p n duals : ℕ} (ok : Listable bytes p n du
         rows i a =
             record {
               symbol = λ j. ok .symbol i j a;
-              turns-of = subst (λ (x : ℕ). Turns stride n (dualOf bytes i) (set terms 0 last) x (term (set terms 0 last) i)) (sym (first ∙ last-weight))
+              turns-of = subst (λ (x : ℕ). Turns stride n (dualOf bytes i) (set terms 0 last) x (term n (set terms 0 last) i)) (sym (first ∙ last-weight))
                   (turns-same (h .turns-of i (omega arith)) (λ j pos. after _ pos ∙ h .low _ (omega (arith, ok .symbol i j a, most)))
-                  (λ k _. after (192 + 64 * i + k) (omega arith)));
+                  (λ k _. after (192 + span n * i + k) (omega arith)));
             }
 
 -- ---- a room that is kept

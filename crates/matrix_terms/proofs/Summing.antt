@@ -1,4 +1,4 @@
--- A product by a table as the loop has it after i of the dual word's terms: the sum of the table's `span` places that each of them tells.
+-- A product by a table, block by block, as the loops have it after i of the dual word's terms: the sum of the table's places that each of them tells.
 -- Assumes nothing.
 use mathlib.Core.Path.{_≡_, sym, ap, ap₂, _∙_, subst}
 use mathlib.Core.Bool.{Bool, not, cond}
@@ -7,9 +7,10 @@ use Prim.Native.Nat.{ℕ, _+_, _-_, _*_, _/_, _%_, _^_, _≤_, _<_, zero-le}
 use native.Mathlib.Decide.{ℕ-discrete}
 use native.Mathlib.Omega.{arith}
 use borrow.Author.Tests.{eq-eqb, ne-eqb}
-use lib.Bits.{bitXor, xor-zero-r}
+use lib.Bits.{bitAnd, bitXor, xor-zero-r, and-mask}
 use lib.ListN.{length, replicate, length-replicate}
 use lib.Pow.{pow-mono}
+use lib.Seq.{ext-getD}
 use mir.Syntax.{w16, w64}
 use mir.Val.{Fits}
 use Rattle.spec_range.specs.Fold.{fold}
@@ -24,133 +25,188 @@ use Rattle.spec_field.proofs.Laws.{zero-mul}
 use Rattle.spec_field.proofs.Gf.{gf-laws}
 use Rattle.spec_word.specs.Word.{nonzero, product}
 use Rattle.spec_word.proofs.Sums.{sum-below}
-use Rattle.word_array.specs.Stored.{place, Sizes}
+use Rattle.sizes.specs.Blocks.{blocks, span, stride, shift}
+use Rattle.sizes.proofs.Lengths.{Length, one, two, four, length-of, blocks-fit}
+use Rattle.word_array.specs.Stored.{place}
 use Rattle.word_table.specs.Multiples.{wordOf, Multiples, Multiplied}
 use Rattle.word_table.specs.Rows.{turned}
+use Rattle.word_table.specs.Window.{Window}
+use Rattle.word_table.proofs.Window.{window-at}
 use Rattle.word_table.proofs.Rows.{rows-apart}
 use Rattle.field_powers.proofs.Laws.{power-below}
-use Rattle.matrix_terms.specs.Terms.{Places, Terms, RowOf, term}
+use Rattle.matrix_terms.specs.Terms.{Terms, RowOf, term}
+use Rattle.matrix_terms.specs.Sums.{startOf, termsSum, Summands}
 use Rattle.matrix_terms.proofs.Digits.{log-of, place-of}
 
 -- a 16-bit number is an index
 pub wide-fits : {x : ℕ} → Fits w16 x → Fits w64 x
 wide-fits f = record { fits = omega (arith, f .fits) }
 
--- `starts` has for each nonzero place h where row b h of a table of multiples, turned by h, starts
-pub record Sums (stride n : ℕ) (b : ℕ → ℕ) (weight : ℕ) (starts : ℕ → ℕ) : Type 0 where
-  pub places : Places n b weight
-  pub sum-at : (i : ℕ) → i < weight → starts i ≡ stride * b (places .place-at i) + (n - places .place-at i)
+-- rows have at most 2 ^ 9 places
+pub shift-high : (n : ℕ) → shift n ≤ 9
+shift-high n = go (length-of n)
+  where
+    go : Length n → shift n ≤ 9
+    go (one a e f) = omega (arith, f)
+    go (two a b e f) = omega (arith, f)
+    go (four a e f) = omega (arith, f)
 
--- where a term's row starts: that of its symbol, which is the power of its logarithm
-abbrev pub startOf : ℕ → ℕ → List ℕ → ℕ → ℕ → ℕ
-startOf stride n terms l i = stride * place terms (64 + term terms l i / stride) + (n - term terms l i % stride)
+-- ---- one block
 
--- of `weight` starts the first i are summed
-pub record Summing (span : ℕ) (t : List ℕ) (starts : ℕ → ℕ) (weight i : ℕ) (sum : List ℕ) : Type 0 where
-  pub within : i ≤ weight
-  pub long : length sum ≡ span
-  pub at : (j : ℕ) → j < span → place sum j ≡ fold bitXor 0 i (λ i. place t (starts i + j))
+-- the rows of the first i terms are summed, in the block from place `at` on
+pub record Summing (stride n : ℕ) (terms : List ℕ) (from : ℕ) (t : List ℕ) (at i : ℕ) (sum : List ℕ) : Type 0 where
+  pub within : i ≤ place terms 0
+  pub long : length sum ≡ 64
+  pub places : (j : ℕ) → j < 64 → place sum j ≡ fold bitXor 0 i (λ i. place t (startOf stride n terms from i + (at + j)))
 
 -- before the first
-pub summing-none : (span : ℕ) (t : List ℕ) (starts : ℕ → ℕ) (weight : ℕ) → Summing span t starts weight 0 (replicate span 0)
-summing-none span t starts weight =
-    record { within = zero-le; long = length-replicate {A = ℕ} span 0; at = λ j l. zero-at span j ∙ sym (fold-none bitXor 0 _) }
+pub summing-none : (stride n : ℕ) (terms : List ℕ) (from : ℕ) (t : List ℕ) (at : ℕ) → Summing stride n terms from t at 0 (replicate 64 0)
+summing-none stride n terms from t at =
+    record { within = zero-le; long = length-replicate {A = ℕ} 64 0; places = λ j l. zero-at 64 j ∙ sym (fold-none bitXor 0 _) }
 
--- one more
-pub summing-more : {span : ℕ} {t : List ℕ} {starts : ℕ → ℕ} {weight i : ℕ} {sum sum′ : List ℕ} → Summing span t starts weight i sum → i < weight
-    → sum′ ≡ table span (λ j. bitXor (place sum j) (place t (starts i + j))) → Summing span t starts weight (i + 1) sum′
-summing-more {span} {t} {starts} {weight} {i} {sum} h l e =
-    record {
-      within = omega arith;
-      long = ap length e ∙ table-length span _;
-      at = λ j d.
-          ap (λ (v : List ℕ). place v j) e ∙ table-at span _ d
-          ∙ fold-step bitXor 0 i (λ i. place t (starts i + j)) (h .at j d) (ap (λ (k : ℕ). place t (k + j)) (omega arith));
-    }
+module _ {stride n : ℕ} {terms : List ℕ} {from : ℕ} {t : List ℕ} {at i : ℕ} {sum : List ℕ} (h : Summing stride n terms from t at i sum) where
+  -- one more
+  pub summing-more : {start : ℕ} {sum′ : List ℕ} → i < place terms 0 → start ≡ startOf stride n terms from i + at
+      → sum′ ≡ table 64 (λ j. bitXor (place sum j) (place t (start + j))) → Summing stride n terms from t at (i + 1) sum′
+  summing-more l es e =
+      record {
+        within = omega arith;
+        long = ap length e ∙ table-length 64 _;
+        places = λ j d.
+            ap (λ (v : List ℕ). place v j) e ∙ table-at 64 _ d
+            ∙ fold-step bitXor 0 i (λ i. place t (startOf stride n terms from i + (at + j))) (h .places j d) (ap (place t) (omega arith));
+      }
+
+  -- after the last
+  pub summing-end : place terms 0 ≤ i → sum ≡ table 64 (λ j. termsSum stride n terms from t (at + j))
+  unfolding termsSum
+  summing-end l =
+      let e : i ≡ place terms 0 = omega (arith, h .within) in
+      ext-getD 0 sum (table 64 (λ j. termsSum stride n terms from t (at + j))) (h .long ∙ sym (table-length 64 _)) (λ j k.
+      let d : j < 64 = subst (λ (m : ℕ). j < m) (h .long) k in
+      h .places j d ∙ ap (λ (i : ℕ). fold bitXor 0 i (λ i. place t (startOf stride n terms from i + (at + j)))) e
+      ∙ sym (table-at 64 (λ j. termsSum stride n terms from t (at + j)) d))
+
+-- the parts of term i as the code has them: its digits from `shift` on, and those below
+module _ {stride span n : ℕ} {terms : List ℕ} {from : ℕ} {t : List ℕ} (ok : Summands stride span n terms from t) (shift : ℕ) (e : 2 ^ shift ≡ stride)
+    {i : ℕ} (a : i < place terms 0) where
+  abbrev x : ℕ
+  x = place terms (from + i)
+
+  log-is : x / 2 ^ shift ≡ x / stride
+  log-is = ap (λ (m : ℕ). x / m) e
+
+  turn-is : bitAnd x (stride - 1) ≡ x % stride
+  turn-is = ap (λ (m : ℕ). bitAnd x (m - 1)) (sym e) ∙ and-mask x shift ∙ ap (λ (m : ℕ). x % m) e
+
+  pub start-is : stride * place terms (64 + x / 2 ^ shift) + (n - bitAnd x (stride - 1)) ≡ startOf stride n terms from i
+  start-is = ap₂ (λ (k h : ℕ). stride * place terms (64 + k) + (n - h)) log-is turn-is
+
+  -- they are read within the room and the table
+  pub log-in : 64 + x / 2 ^ shift < length terms
+  log-in = omega (arith, log-is, ok .power-in i a)
+
+  pub turn-in : bitAnd x (stride - 1) ≤ n
+  turn-in = omega (arith, turn-is, ok .place-lt i a)
+
+  pub start-in : stride * place terms (64 + x / 2 ^ shift) + (n - bitAnd x (stride - 1)) + span ≤ length t
+  start-in = omega (arith, start-is, ok .start-in i a)
+
+-- ---- all blocks
 
 module _ {stride p n duals : ℕ} {terms : List ℕ} (ok : Terms stride p n duals terms) {l : ℕ} (d : l < duals) where
-  -- the symbol of a term is read where the powers are
-  pub power-in : {i : ℕ} → i < place terms 0 → 64 + term terms l i / stride < length terms
-  power-in {i} a = let most : 2 ^ p ≤ 64 = pow-mono (ok .sizes .p-high) in omega (arith, ok .long, ok .log-lt l i d a)
+  -- where the terms of dual word l start
+  abbrev from : ℕ
+  from = 192 + 64 * blocks n * l
 
-  -- it is a symbol
-  pub symbol-lt : {i : ℕ} → i < place terms 0 → place terms (64 + term terms l i / stride) < 2 ^ p
+  -- the symbol of a term is one
+  symbol-lt : {i : ℕ} → i < place terms 0 → place terms (64 + term n terms l i / stride) < 2 ^ p
   symbol-lt {i} a =
       let s = ok .sizes in
       let low = ok .log-lt l i d a in
-      subst (λ (x : ℕ). x < 2 ^ p) (sym (ok .powers .exp-at _ (omega arith))) (power-below p (s .p-low) (s .p-high) (term terms l i / stride))
+      subst (λ (x : ℕ). x < 2 ^ p) (sym (ok .powers .exp-at _ (omega arith))) (power-below p (s .p-low) (s .p-high) (term n terms l i / stride))
 
-  pub symbol-small : {i : ℕ} → i < place terms 0 → place terms (64 + term terms l i / stride) < 64
-  symbol-small {i} a = let most : 2 ^ p ≤ 64 = pow-mono (ok .sizes .p-high) in let low = symbol-lt {i = i} a in omega arith
-
-  -- and its place is below n
-  pub place-low : {i : ℕ} → i < place terms 0 → term terms l i % stride < n
-  place-low {i} a = ok .place-lt l i d a
-
-  -- the places from its start on are in the table, `span` of them
-  pub start-in : (span : ℕ) → n + span ≤ stride → {t : List ℕ} → Multiples stride p n t → {i : ℕ} → i < place terms 0
-      → startOf stride n terms l i + span ≤ length t
-  start-in span within m {i} a = omega (arith, rows-apart stride (symbol-lt {i = i} a), m .size)
-
-  -- the starts of a word's terms
-  pub starts-of : {b : ℕ → ℕ} → RowOf stride p n l b terms → Sums stride n b (place terms 0) (startOf stride n terms l)
-  starts-of {b} row =
+  -- the row of each term is in the table
+  summands : {span : ℕ} → n + span ≤ stride → {t : List ℕ} → Multiples stride p n t → Summands stride span n terms from t
+  summands within m =
       record {
-        places = row .turns-of .places;
-        sum-at = λ i a.
-            let at = row .turns-of .places .place-at i in
-            let pos = row .turns-of .places .symbol-pos i a in
-            let log = ok .powers .log-lt (b at) pos (row .symbol at) in
-            ap₂ (λ (c h : ℕ). stride * c + (n - h))
-            (ap (λ (e : ℕ). place terms (64 + e)) (log-of (ok .fits) (row .turns-of) i a)
-            ∙ ok .powers .exp-at (place terms (b at)) (omega arith) ∙ ok .powers .log-is (b at) pos (row .symbol at))
-            (place-of (ok .fits) (row .turns-of) i a);
+        long = omega (arith, ok .long);
+        within = let few : l < 32 = omega (arith, ok .few-duals) in
+            omega (arith, ok .long, ok .few, blocks-fit (ok .sizes .n-high), rows-apart (64 * blocks n) few);
+        power-in = λ i a. let most : 2 ^ p ≤ 64 = pow-mono (ok .sizes .p-high) in omega (arith, ok .long, ok .log-lt l i d a);
+        place-lt = λ i a. ok .place-lt l i d a;
+        start-in = λ i a. omega (arith, rows-apart stride (symbol-lt {i = i} a), m .size);
       }
 
-module _ {stride span p n : ℕ} {b : ℕ → ℕ} {t : List ℕ} {weight : ℕ} {starts : ℕ → ℕ} (s : Sizes p n) (short : n ≤ span) (fits : n + span ≤ stride)
-    (symbol : (j : ℕ) → b j < 2 ^ p) (m : Multiples stride p n t) (h : Sums stride n b weight starts) where
-  -- the symbols are a field
-  laws : FieldLaws (gf p)
-  laws = gf-laws p (s .p-low) (s .p-high)
+  -- the word b whose terms these are, and the table's word
+  module _ {b : ℕ → ℕ} (row : RowOf stride p n l b terms) {t : List ℕ} (m : Multiples stride p n t) where
+    laws : FieldLaws (gf p)
+    laws = gf-laws p (ok .sizes .p-low) (ok .sizes .p-high)
 
-  -- a place of a turned row is a symbol
-  turned-symbol : (j u : ℕ) → j < span → u < n → turned stride n b t j u < 2 ^ p
-  turned-symbol j u d l =
-      subst (λ (k : ℕ). place t k < 2 ^ p) (omega arith) (m .symbol (b u) (n - u + j) (symbol u) (omega arith))
+    -- the i-th nonzero place
+    abbrev at : ℕ → ℕ
+    at = row .turns-of .places .place-at
 
-  -- what the place u adds, where a zero symbol adds nothing
-  adds : (j u : ℕ) → j < n → u < n → cond (nonzero (b u)) (turned stride n b t j u) 0 ≡ symbols.product p (b u) (wordOf stride n t (j + (n - u)))
-  adds j u d l = go (ℕ-discrete (b u) 0)
-    where
-      go : Dec (b u ≡ 0) → cond (nonzero (b u)) (turned stride n b t j u) 0 ≡ symbols.product p (b u) (wordOf stride n t (j + (n - u)))
-      go (yes z) =
-          ap (λ (t′ : Bool). cond (not t′) (turned stride n b t j u) 0) (eq-eqb (b u) 0 z)
-          ∙ sym (ap (λ (x : ℕ). symbols.product p x (wordOf stride n t (j + (n - u)))) z ∙ zero-mul (gf p) laws _)
-      go (no z) =
-          ap (λ (t′ : Bool). cond (not t′) (turned stride n b t j u) 0) (ne-eqb (b u) 0 z)
-          ∙ ap (place t) (omega arith) ∙ m .multiple (b u) (n - u + j) (symbol u) (omega arith)
-          ∙ ap (λ (k : ℕ). symbols.product p (b u) (wordOf stride n t k)) (omega arith)
+    -- a term's row is that of its symbol, turned by its place
+    at-start : (j : ℕ) {i : ℕ} → i < place terms 0 → place t (startOf stride n terms from i + j) ≡ turned stride n b t j (at i)
+    at-start j {i} a =
+        let pos = row .turns-of .places .symbol-pos i a in
+        let log = ok .powers .log-lt (b (at i)) pos (row .symbol (at i)) in
+        ap₂ (λ (c h : ℕ). place t (stride * c + (n - h) + j))
+        (ap (λ (e : ℕ). place terms (64 + e)) (log-of (ok .fits) (row .turns-of) i a)
+        ∙ ok .powers .exp-at (place terms (b (at i))) (omega arith) ∙ ok .powers .log-is (b (at i)) pos (row .symbol (at i)))
+        (place-of (ok .fits) (row .turns-of) i a)
 
-  -- what a start adds is the turned row
-  at-start : (j : ℕ) {i : ℕ} → i < weight → place t (starts i + j) ≡ turned stride n b t j (h .places .place-at i)
-  at-start j {i} l = ap (λ (k : ℕ). place t (k + j)) (h .sum-at i l)
+    -- what the place u adds, where a zero symbol adds nothing
+    adds : (j u : ℕ) → j < n → u < n → cond (nonzero (b u)) (turned stride n b t j u) 0 ≡ symbols.product p (b u) (wordOf stride n t (j + (n - u)))
+    adds j u d l = go (ℕ-discrete (b u) 0)
+      where
+        go : Dec (b u ≡ 0) → cond (nonzero (b u)) (turned stride n b t j u) 0 ≡ symbols.product p (b u) (wordOf stride n t (j + (n - u)))
+        go (yes z) =
+            ap (λ (t′ : Bool). cond (not t′) (turned stride n b t j u) 0) (eq-eqb (b u) 0 z)
+            ∙ sym (ap (λ (x : ℕ). symbols.product p x (wordOf stride n t (j + (n - u)))) z ∙ zero-mul (gf p) laws _)
+        go (no z) =
+            ap (λ (t′ : Bool). cond (not t′) (turned stride n b t j u) 0) (ne-eqb (b u) 0 z)
+            ∙ ap (place t) (omega arith) ∙ m .multiple (b u) (n - u + j) (row .symbol u) (omega (arith, ok .fits))
+            ∙ ap (λ (k : ℕ). symbols.product p (b u) (wordOf stride n t k)) (omega arith)
 
-  -- after the last
-  pub summing-end : {i : ℕ} {sum : List ℕ} → weight ≤ i → Summing span t starts weight i sum → Multiplied span p n b (wordOf stride n t) sum
-  unfolding product
-  summing-end {i} {sum} l a =
-      record {
-        symbols = record {
-          symbol = λ j d.
-              subst (λ (x : ℕ). x < 2 ^ p) (sym (a .at j d))
-              (sum-below (gf p) laws i _ (λ k e.
-              let low : k < weight = omega (arith, a .within) in
-              subst (λ (x : ℕ). x < 2 ^ p) (sym (at-start j low)) (turned-symbol j _ d (h .places .place-lt k low))));
-        };
-        places = λ j d.
-            a .at j (omega arith)
-            ∙ ap (λ (i : ℕ). fold bitXor 0 i (λ i. place t (starts i + j))) (omega (arith, a .within))
-            ∙ fold-cong bitXor 0 weight (λ i e. at-start j e)
-            ∙ h .places .folds bitXor 0 xor-zero-r (turned stride n b t j)
-            ∙ fold-cong bitXor 0 n (λ u e. adds j u d e);
-      }
+    -- after the last block
+    blocks-end : {span : ℕ} {w₀ w : List ℕ} → n ≤ span → n + span ≤ stride → Window 0 span (termsSum stride n terms from t) w₀ w
+        → Multiplied span p n b (wordOf stride n t) w
+    unfolding product termsSum
+    blocks-end {span} short fits put =
+        record {
+          symbols = record {
+            symbol = λ j d.
+                subst (λ (x : ℕ). x < 2 ^ p) (sym (window-at put j d))
+                (sum-below (gf p) laws (place terms 0) _ (λ k e.
+                subst (λ (x : ℕ). x < 2 ^ p) (sym (at-start j e)) (turned-symbol j (at k) d (row .turns-of .places .place-lt k e))));
+          };
+          places = λ j d.
+              window-at put j (omega arith)
+              ∙ fold-cong bitXor 0 (place terms 0) (λ i e. at-start j e)
+              ∙ row .turns-of .places .folds bitXor 0 xor-zero-r (turned stride n b t j)
+              ∙ fold-cong bitXor 0 n (λ u e. adds j u d e);
+        }
+      where
+        -- a place of a turned row is a symbol
+        turned-symbol : (j u : ℕ) → j < span → u < n → turned stride n b t j u < 2 ^ p
+        turned-symbol j u d l =
+            subst (λ (k : ℕ). place t k < 2 ^ p) (omega arith) (m .symbol (b u) (n - u + j) (row .symbol u) (omega arith))
+
+-- the same by the number of blocks that the code has
+module _ {p n duals : ℕ} {terms : List ℕ} (ok : Terms (stride n) p n duals terms) {l : ℕ} (d : l < duals) {x : ℕ} (e : x ≡ blocks n)
+    {t : List ℕ} (m : Multiples (stride n) p n t) where
+  pub row-summands : Summands (128 * x) (64 * x) n terms (192 + 64 * x * l) t
+  row-summands =
+      subst (λ (x : ℕ). Summands (128 * x) (64 * x) n terms (192 + 64 * x * l) t) (sym e)
+      (summands ok d (omega (arith, blocks-fit (ok .sizes .n-high))) m)
+
+  pub row-product : {i : ℕ} {b : ℕ → ℕ} {w₀ w : List ℕ} → i ≤ x → x ≤ i → Window 0 (64 * i) (termsSum (128 * x) n terms (192 + 64 * x * l) t) w₀ w
+      → RowOf (stride n) p n l b terms → Multiplied (span n) p n b (wordOf (stride n) n t) w
+  row-product {i} {w₀ = w₀} {w = w} low high put row =
+      let all : i ≡ x = omega arith in
+      let fits = blocks-fit (ok .sizes .n-high) in
+      blocks-end ok d row m (omega (arith, fits)) (omega (arith, fits))
+      (subst (λ (x : ℕ). Window 0 (64 * x) (termsSum (128 * x) n terms (192 + 64 * x * l) t) w₀ w) e
+      (subst (λ (i : ℕ). Window 0 (64 * i) (termsSum (128 * x) n terms (192 + 64 * x * l) t) w₀ w) all put))

@@ -118,6 +118,6 @@ pub terms-weight : {stride p n duals : ℕ} {b : ℕ → ℕ → ℕ} {terms : L
     → weight n (b l) ≡ place terms 0
 terms-weight h l d = places-weight (h .row-of l d .turns-of .places)
 
--- a column's sum is at most 2016
-pub all-le : {stride p n duals : ℕ} {terms : List ℕ} → Terms stride p n duals terms → duals * place terms 0 ≤ 2016
-all-le {n = n} {terms = terms} h = let small : place terms 0 ≤ 63 = omega (arith, h .few, h .sizes .n-high) in mul-le-mul (h .few-duals) small
+-- a column's sum is at most 8160
+pub all-le : {stride p n duals : ℕ} {terms : List ℕ} → Terms stride p n duals terms → duals * place terms 0 ≤ 8160
+all-le {n = n} {terms = terms} h = let small : place terms 0 ≤ 255 = omega (arith, h .few, h .sizes .n-high) in mul-le-mul (h .few-duals) small

@@ -1,6 +1,6 @@
 -- A room of numbers that belongs to an opened book, made once for many matrices. Number 0 is the weight of the dual words, 0 where nothing is listed
--- yet; the logarithms of the symbols follow, each at the place of its symbol, and from 64 on the powers of x. From 192 on each dual word has a row of 64
--- terms: one for each nonzero place h, `stride` times the logarithm of its symbol and h.
+-- yet; the logarithms of the symbols follow, each at the place of its symbol, and from 64 on the powers of x. From 192 on each dual word has a row of
+-- whole blocks of terms: one for each nonzero place h, `stride` times the logarithm of its symbol and h.
 -- Assumes nothing.
 use mathlib.Core.Path.{_≡_}
 use mathlib.Core.Bool.{cond}
@@ -9,9 +9,10 @@ use Prim.Native.Nat.{ℕ, _+_, _*_, _/_, _%_, _^_, _≤_, _<_}
 use lib.ListN.{length}
 use Rattle.spec_range.specs.Fold.{fold}
 use Rattle.spec_word.specs.Word.{nonzero}
-use Rattle.word_array.specs.Stored.{place, Sizes, Stored}
+use Rattle.sizes.specs.Blocks.{blocks, span}
+use Rattle.word_array.specs.Stored.{place, Sizes}
 use Rattle.field_powers.specs.Powers.{PowersOf}
-use Rattle.spec_book.specs.Layout.{width, bookOf}
+use Rattle.spec_book.specs.Layout.{bookOf}
 
 -- the nonzero places of a word b of n symbols, as many as `weight`: a fold over them is the fold over all places that leaves the zero ones out
 pub record Places (n : ℕ) (b : ℕ → ℕ) (weight : ℕ) : Type 0 where
@@ -29,27 +30,27 @@ pub record Turns (stride n : ℕ) (b : ℕ → ℕ) (logs : List ℕ) (weight : 
 
 -- dual word l of a book's bytes, with the period n
 abbrev pub dualOf : List ℕ → ℕ → ℕ → ℕ
-dualOf bytes l = bookOf width bytes .dual l
+dualOf bytes l = bookOf bytes .dual l
 
--- term i of dual word l
-abbrev pub term : List ℕ → ℕ → ℕ → ℕ
-term terms l i = place terms (192 + 64 * l + i)
+-- term i of dual word l of n symbols
+abbrev pub term : ℕ → List ℕ → ℕ → ℕ → ℕ
+term n terms l i = place terms (192 + 64 * blocks n * l + i)
 
 -- what makes the reads of a room safe, about its numbers alone
 pub record Terms (stride p n duals : ℕ) (terms : List ℕ) : Type 0 where
   pub sizes : Sizes p n
   pub fits : n + n ≤ stride
   pub few-duals : duals ≤ 32
-  pub long : 2240 ≤ length terms
+  pub long : 192 + 64 * blocks n * 32 ≤ length terms
   pub powers : PowersOf p terms
   pub few : place terms 0 ≤ n
-  pub log-lt : (l i : ℕ) → l < duals → i < place terms 0 → term terms l i / stride + 1 < 2 ^ p
-  pub place-lt : (l i : ℕ) → l < duals → i < place terms 0 → term terms l i % stride < n
+  pub log-lt : (l i : ℕ) → l < duals → i < place terms 0 → term n terms l i / stride + 1 < 2 ^ p
+  pub place-lt : (l i : ℕ) → l < duals → i < place terms 0 → term n terms l i % stride < n
 
 -- row l has the terms of the word b
 pub record RowOf (stride p n l : ℕ) (b : ℕ → ℕ) (terms : List ℕ) : Type 0 where
   pub symbol : (j : ℕ) → b j < 2 ^ p
-  pub turns-of : Turns stride n b terms (place terms 0) (term terms l)
+  pub turns-of : Turns stride n b terms (place terms 0) (term n terms l)
 
 -- the room has the terms of the first `duals` of the dual words b
 pub record TermsOf (stride p n duals : ℕ) (b : ℕ → ℕ → ℕ) (terms : List ℕ) : Type 0 where
@@ -61,9 +62,10 @@ pub data Kept (stride p n duals : ℕ) (b : ℕ → ℕ → ℕ) (terms : List �
   unlisted : place terms 0 ≡ 0 → Kept stride p n duals b terms
   already : TermsOf stride p n duals b terms → Kept stride p n duals b terms
 
--- what filling a matrix m of the word r asks: the room has the terms of some dual words
+-- what filling a matrix m of the word r asks: the room has the terms of some dual words, and r has symbols in all places of its blocks but the last
 pub record Filling (stride p n duals : ℕ) (terms r m : List ℕ) : Type 0 where
   pub words : ℕ → ℕ → ℕ
   pub terms-of : TermsOf stride p n duals words terms
-  pub word : Stored p n r
+  pub room : span n ≤ length r + 1
+  pub word : (j : ℕ) → j + 1 < span n → place r j < 2 ^ p
   pub size : length m ≡ 2 ^ p * n

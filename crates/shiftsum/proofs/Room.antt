@@ -4,7 +4,7 @@ use mathlib.Core.Path.{_≡_, refl, sym, ap, _∙_}
 use mathlib.Core.List.{List}
 use Prim.Native.Nat.{ℕ, zero, suc, _*_}
 use Rattle.spec_field.specs.Answer.{Answer, answer, orElse, left}
-use Rattle.spec_book.specs.Layout.{width, fieldOf}
+use Rattle.spec_book.specs.Layout.{fieldOf}
 use Rattle.spec_book.specs.Conditions.{refusal}
 use Rattle.spec_book.proofs.Known.{n-word-length}
 use Rattle.spec_operations.specs.Decoding.{matrixSize, decodeInputRefusal, decodeRefusal, decodeBytes, values, Decodes}
@@ -15,9 +15,9 @@ use Rattle.book.specs.Opened.{MatrixSize}
 sized : (bytes received : List ℕ) (room : ℕ) {size : ℕ} → MatrixSize bytes size
     → decodeRefusal bytes received room size ≡ decodeRefusal bytes received room (matrixSize bytes)
 unfolding decodeRefusal
-sized bytes received room {size} h = go (refusal width bytes) refl
+sized bytes received room {size} h = go (refusal bytes) refl
   where
-    go : (k : ℕ) → refusal width bytes ≡ k
+    go : (k : ℕ) → refusal bytes ≡ k
         → orElse k (decodeInputRefusal bytes received room size) ≡ orElse k (decodeInputRefusal bytes received room (matrixSize bytes))
     go zero e =
         let exact : size ≡ matrixSize bytes = h .exact e ∙ ap (λ (n : ℕ). fieldOf bytes .q * n) (sym (n-word-length bytes e)) in

@@ -1,7 +1,9 @@
 // The C boundary: check, code, read, remainder and decode on numbers and byte slices. A `&[u8]` is a pointer and a length in C. The matrix is a local buffer.
 ghost use mathlib.Core.Path.{_≡_};
+ghost use mathlib.Core.Bool.{true, false};
 ghost use mathlib.Core.List.{[]};
 ghost use lib.ListN.{length};
+ghost use Rattle.spec_book.specs.Layout.{isLong};
 ghost use Rattle.spec_operations.specs.Check.{checkAnswer};
 ghost use Rattle.spec_operations.specs.Coding.{codeRefusal, coded, readRefusal, messageOf};
 ghost use Rattle.spec_operations.specs.Remainder.{remainderRefusal, remainderOf};
@@ -9,11 +11,13 @@ ghost use Rattle.spec_operations.specs.Decoding.{matrixSize, decodeRefusal, dec
 ghost use Rattle.spec_operations.specs.Packed.{packed, Returns};
 ghost use Rattle.refusals.specs.Said as done;
 ghost use Rattle.book.specs.Params as checks;
+ghost use Rattle.book.specs.Opened.{fewSymbols};
 ghost use Rattle.decode.specs.Decoded as decodes;
 use book::Checked;
 use decode::Decoded;
 use refusals::Done;
 use sizes::FEW_MATRIX;
+use sizes::LONG_FEW_MATRIX;
 use sizes::MATRIX;
 
 // The result of a check.
@@ -85,32 +89,89 @@ pub extern "C" fn shiftsum_remainder(book: &[u8], word: &[u8], remainder: &mut [
     pack_done(coder::remainder(book, word, remainder))
 }
 
-// Room for the largest matrix. Only its length matters: every entry is written before it is read.
+// Rooms for a matrix: the largest, that of few symbols in a short book, and in a long one. Only the length matters: every entry is written before it is read.
 fn matrix_room() -> [u16; MATRIX]
-    ensures { λ r. ⌜ 4032 ≡ length r ⌝ }
+    ensures { λ r. ⌜ 4080 ≡ length r ⌝ }
 {
     [0; MATRIX]
 }
 
-// Room for the largest matrix of few symbols.
 fn few_room() -> [u16; FEW_MATRIX]
     ensures { λ r. ⌜ 504 ≡ length r ⌝ }
 {
     [0; FEW_MATRIX]
 }
 
-// Decode a received word. The matrix is of the exact size, so refusal 10 tells of the answer alone. No room is larger than p asks: to clear it costs time.
+fn long_few_room() -> [u16; LONG_FEW_MATRIX]
+    ensures { λ r. ⌜ 2040 ≡ length r ⌝ }
+{
+    [0; LONG_FEW_MATRIX]
+}
+
+// Decode a received word with a matrix of the exact size, by a short book with few symbols. Each room is the only one of its function, so that they may lie in
+// one place of the stack.
+fn decode_few(book: &[u8], received: &[u8], answer: &mut [u8]) -> u32
+    requires { ⌜ (fewSymbols (now book) ≡ true) × (isLong (now book) ≡ false) ⌝ }
+    ensures { λ r. ⌜ Returns (decodeRefusal (now (book .entry)) (now (received .entry)) (length (now (answer .entry))) (matrixSize (now (book .entry))))
+        (values (decodeBytes (now (book .entry)) (now (received .entry)))) (decodeBytes (now (book .entry)) (now (received .entry)) .answer)
+        (now (answer .entry)) r (now (answer .exit)) ⌝ }
+{
+    let size = book::matrix_size(book);
+    let mut room = few_room();
+    pack_decoded(decode::decode_short(book, received, answer, &mut room[..size]))
+}
+
+// The same by any short book.
+fn decode_short(book: &[u8], received: &[u8], answer: &mut [u8]) -> u32
+    requires { ⌜ isLong (now book) ≡ false ⌝ }
+    ensures { λ r. ⌜ Returns (decodeRefusal (now (book .entry)) (now (received .entry)) (length (now (answer .entry))) (matrixSize (now (book .entry))))
+        (values (decodeBytes (now (book .entry)) (now (received .entry)))) (decodeBytes (now (book .entry)) (now (received .entry)) .answer)
+        (now (answer .entry)) r (now (answer .exit)) ⌝ }
+{
+    let size = book::matrix_size(book);
+    let mut room = matrix_room();
+    pack_decoded(decode::decode_short(book, received, answer, &mut room[..size]))
+}
+
+// The same by a long book with few symbols.
+fn decode_long_few(book: &[u8], received: &[u8], answer: &mut [u8]) -> u32
+    requires { ⌜ fewSymbols (now book) ≡ true ⌝ }
+    ensures { λ r. ⌜ Returns (decodeRefusal (now (book .entry)) (now (received .entry)) (length (now (answer .entry))) (matrixSize (now (book .entry))))
+        (values (decodeBytes (now (book .entry)) (now (received .entry)))) (decodeBytes (now (book .entry)) (now (received .entry)) .answer)
+        (now (answer .entry)) r (now (answer .exit)) ⌝ }
+{
+    let size = book::matrix_size(book);
+    let mut room = long_few_room();
+    pack_decoded(decode::decode_long(book, received, answer, &mut room[..size]))
+}
+
+// The same by any book.
+fn decode_long(book: &[u8], received: &[u8], answer: &mut [u8]) -> u32
+    ensures { λ r. ⌜ Returns (decodeRefusal (now (book .entry)) (now (received .entry)) (length (now (answer .entry))) (matrixSize (now (book .entry))))
+        (values (decodeBytes (now (book .entry)) (now (received .entry)))) (decodeBytes (now (book .entry)) (now (received .entry)) .answer)
+        (now (answer .entry)) r (now (answer .exit)) ⌝ }
+{
+    let size = book::matrix_size(book);
+    let mut room = matrix_room();
+    pack_decoded(decode::decode_long(book, received, answer, &mut room[..size]))
+}
+
+// Decode a received word. The matrix is of the exact size, so refusal 10 tells of the answer alone. No room is larger than the book asks: to clear it costs time.
 #[no_mangle]
 pub extern "C" fn shiftsum_decode(book: &[u8], received: &[u8], answer: &mut [u8]) -> u32
     ensures { λ r. ⌜ Returns (decodeRefusal (now (book .entry)) (now (received .entry)) (length (now (answer .entry))) (matrixSize (now (book .entry))))
         (values (decodeBytes (now (book .entry)) (now (received .entry)))) (decodeBytes (now (book .entry)) (now (received .entry)) .answer)
         (now (answer .entry)) r (now (answer .exit)) ⌝ }
 {
-    let size = book::matrix_size(book);
-    if book::few_symbols(book) {
-        let mut room = few_room();
-        return pack_decoded(decode::decode(book, received, answer, &mut room[..size]));
+    let few = book::few_symbols(book);
+    if book_layout::is_long(book) {
+        if few {
+            return decode_long_few(book, received, answer);
+        }
+        return decode_long(book, received, answer);
     }
-    let mut room = matrix_room();
-    pack_decoded(decode::decode(book, received, answer, &mut room[..size]))
+    if few {
+        return decode_few(book, received, answer);
+    }
+    decode_short(book, received, answer)
 }

@@ -2,40 +2,68 @@
 ghost use mathlib.Core.Path.{_≡_};
 ghost use Prim.Native.Nat.{min};
 ghost use lib.Dec.{ltb};
+ghost use Rattle.sizes.specs.Blocks.{blocks, shift};
 
-// The bytes of a generator's or a dual word's body, and the places of the longest word.
-pub const WIDTH: usize = 63;
+// The places of the longest word.
+pub const WIDTH: usize = 255;
 // A word by value, zero from its last symbol on.
 pub type Word = [u8; WIDTH];
-// The places that a loop over a word takes: one more, so that it is made of whole vectors.
-pub const SPAN: usize = 64;
-// The places of a row of a table: room for a word twice over.
-pub const STRIDE: usize = 128;
+// The places that one step over a word takes: whole vectors. A word takes as many blocks as it needs, with a place to spare, so that a short one
+// takes a single step.
+pub const BLOCK: usize = 64;
+// The places of the longest word in whole blocks, and of a row that has room for it twice over.
+pub const SPAN: usize = 256;
+
+pub const STRIDE: usize = 512;
 // The most symbols of a field, and of one that is called small.
 pub const SYMBOLS: usize = 64;
 
 pub const FEW_SYMBOLS: usize = 8;
-// The places of a table of multiples, a row for each symbol.
+// The places of a table of multiples, a row for each symbol: of any book, of a short one with few symbols, of a long one with few.
 pub const TABLE: usize = 8192;
 
 pub const FEW_TABLE: usize = 1024;
-// The entries of a matrix, a row of a word's length for each symbol.
-pub const MATRIX: usize = 4032;
+
+pub const LONG_FEW_TABLE: usize = 4096;
+// The entries of a matrix, a row of a word's length for each symbol, of the same three.
+pub const MATRIX: usize = 4080;
 
 pub const FEW_MATRIX: usize = 504;
 
-// Where a book's records lie: their kind bytes are at 0, GENERATOR_AT, LIMITS_AT and DUALS_AT + RECORD * l.
+pub const LONG_FEW_MATRIX: usize = 2040;
+
+// Where a book has the kind byte of its generator, which tells its form.
 pub const GENERATOR_AT: usize = 3;
-
-pub const LIMITS_AT: usize = 67;
-
-pub const DUALS_AT: usize = 70;
-
-pub const RECORD: usize = 64;
 // The most dual words, and the length of the longest book.
 pub const DUALS: usize = 32;
 
-pub const BOOK: usize = 2118;
+pub const BOOK: usize = 8454;
+
+// How many blocks a word of n symbols takes.
+pub fn blocks(n: usize) -> usize
+    ensures { λ r. ⌜ r ≡ blocks n ⌝ }
+{
+    if n < 64 {
+        return 1;
+    }
+    if n < 128 {
+        return 2;
+    }
+    4
+}
+
+// The places of a row of a table, which has room for the word twice over, as a power of 2.
+pub fn shift(n: usize) -> u8
+    ensures { λ r. ⌜ r ≡ shift n ⌝ }
+{
+    if n < 64 {
+        return 7;
+    }
+    if n < 128 {
+        return 8;
+    }
+    9
+}
 
 // A byte as an index.
 pub fn wide(x: u8) -> usize

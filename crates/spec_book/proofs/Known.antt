@@ -9,23 +9,23 @@ use Rattle.spec_range.proofs.Tests.{and-left, and-right}
 use Rattle.spec_field.specs.Field.{FieldOps, FieldLaws}
 use Rattle.spec_field.proofs.Gf.{gf-laws}
 use Rattle.spec_book.specs.Book.{Book, Usable}
-use Rattle.spec_book.specs.Layout.{width, symbolDigits, wordLength, fieldOf, bookOf}
+use Rattle.spec_book.specs.Layout.{symbolDigits, wordLength, fieldOf, bookOf}
 use Rattle.spec_book.specs.Conditions.{limitsOk, refusal}
 use Rattle.spec_book.proofs.Sound.{sound}
-use Rattle.spec_book.proofs.Accepting.{Sizes, accepted}
+use Rattle.spec_book.proofs.Accepting.{Sizes, width-high, accepted}
 
-module _ (bytes : List ℕ) (e : refusal width bytes ≡ 0) where
+module _ (bytes : List ℕ) (e : refusal bytes ≡ 0) where
   abbrev F : FieldOps
   F = fieldOf bytes
 
   abbrev B : Book
-  B = bookOf width bytes
+  B = bookOf bytes
 
   pub book-sizes : Sizes bytes
-  book-sizes = accepted width (omega arith) bytes e .0
+  book-sizes = accepted bytes e .0
 
   pub book-accepted : Usable F B
-  book-accepted = accepted width (omega arith) bytes e .1
+  book-accepted = accepted bytes e .1
 
   pub book-laws : FieldLaws F
   book-laws = gf-laws (symbolDigits bytes) (book-sizes .p-low) (book-sizes .p-high)
@@ -37,10 +37,10 @@ module _ (bytes : List ℕ) (e : refusal width bytes ≡ 0) where
   pub n-pos : 0 < B .n
   n-pos = omega (arith, n-word-length, book-sizes .n-low)
 
-  pub n-high : B .n ≤ 63
-  n-high = omega (arith, n-word-length, book-sizes .n-high)
+  pub n-high : B .n ≤ 255
+  n-high = omega (arith, n-word-length, book-sizes .n-high, width-high bytes)
 
   -- at least one round may be made
   pub some-rounds : 1 ≤ B .most-rounds
   unfolding limitsOk
-  some-rounds = let t = sound width bytes e .limits-ok in leb→le 1 (B .most-rounds) (search (and-left, and-right) depth 5)
+  some-rounds = let t = sound bytes e .limits-ok in leb→le 1 (B .most-rounds) (search (and-left, and-right) depth 5)

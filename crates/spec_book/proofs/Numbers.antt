@@ -4,7 +4,7 @@ use mathlib.Core.Bool.{Bool, true, false}
 use mathlib.Core.List.{List}
 use Prim.Native.Nat.{ℕ, _≤_}
 use native.Mathlib.Omega.{arith}
-use Rattle.spec_book.specs.Layout.{width, fieldOf, bookOf}
+use Rattle.spec_book.specs.Layout.{fieldOf, bookOf}
 use Rattle.spec_book.specs.Conditions.{unless, lengthOk, kindsOk, sizesOk, symbolsOk, generatorOk, limitsOk, dualsOk, distinctOk, bookRefusal, refusal}
 use Rattle.spec_book.specs.Conditions.{inputRefusal, inputOk}
 
@@ -19,14 +19,14 @@ input-number q fits exact input =
     unless-le fits (omega arith) (unless-le exact (omega arith) (unless-le (inputOk q input) (omega arith) (omega arith)))
 
 -- 1 to 8
-pub book-number : (bytes : List ℕ) → refusal width bytes ≤ 8
+pub book-number : (bytes : List ℕ) → refusal bytes ≤ 8
 unfolding refusal bookRefusal
 book-number bytes =
     let F = fieldOf bytes in
-    let B = bookOf width bytes in
-    unless-le (lengthOk width bytes) (omega arith)
-    (unless-le (kindsOk width bytes) (omega arith)
+    let B = bookOf bytes in
+    unless-le (lengthOk bytes) (omega arith)
+    (unless-le (kindsOk bytes) (omega arith)
     (unless-le (sizesOk bytes) (omega arith)
-    (unless-le (symbolsOk width bytes) (omega arith)
+    (unless-le (symbolsOk bytes) (omega arith)
     (unless-le (generatorOk F B) (omega arith)
     (unless-le (limitsOk F B) (omega arith) (unless-le (dualsOk F B) (omega arith) (unless-le (distinctOk F B) (omega arith) (omega arith))))))))

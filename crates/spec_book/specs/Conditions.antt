@@ -13,43 +13,51 @@ use Rattle.spec_word.specs.Division.{divides}
 use Rattle.spec_word.specs.CyclicCode.{unity}
 use Rattle.spec_word.specs.Alike.{alike}
 use Rattle.spec_book.specs.Book.{Book, isCodeWord}
-use Rattle.spec_book.specs.Layout.{generatorAt, limitsAt, dualAt, dualCount, byte, bodyPlace, sizeExponent, symbolDigits, wordLength, fieldOf, bookOf}
+use Rattle.spec_book.specs.Layout.{generatorAt, limitsAt, dualAt, dualCount, byte, isLong, width, dualsIn, bodyPlace, sizeExponent, symbolDigits, wordLength, fieldOf, bookOf}
 
 -- ---- tests of the bytes
 
-module _ (width : ℕ) (bytes : List ℕ) where
-  -- SCOPE 7.1: 1: the length is that of a book with 1 to 32 dual words
+-- SCOPE 7.1: `size` is the length of a book with 1 to 32 dual words, where bodies have `width` bytes
+unfoldable pub lengthFits : ℕ → ℕ → Bool
+lengthFits width size = leb 1 (dualCount width size) && leb (dualCount width size) 32 && eqb size (dualAt width (dualCount width size))
+
+module _ (bytes : List ℕ) where
+  -- SCOPE 7.1: 1: there are 4 bytes, and the length is one of the form that byte 3 chooses; of either form where it chooses none
   unfoldable pub lengthOk : Bool
   lengthOk =
-      leb 1 (dualCount width (length bytes))
-      && leb (dualCount width (length bytes)) 32
-      && eqb (length bytes) (dualAt width (dualCount width (length bytes)))
+      let short = lengthFits 63 (length bytes) in
+      let long = lengthFits 255 (length bytes) in
+      leb 4 (length bytes) && cond (isLong bytes) long (short || not (eqb (byte bytes generatorAt) 2) && long)
 
-  -- SCOPE 7.2: 2: the kind bytes are 1, 2, 3 and then 4 for each dual word
+  -- SCOPE 7.2: 2: the kind bytes are 1, 2, 3 and then 4 for each dual word; in the long form 1, 5, 3 and 6
   unfoldable pub kindsOk : Bool
   kindsOk =
       eqb (byte bytes 0) 1
-      && eqb (byte bytes generatorAt) 2
-      && eqb (byte bytes (limitsAt width)) 3
-      && all (dualCount width (length bytes)) (λ l. eqb (byte bytes (dualAt width l)) 4)
+      && eqb (byte bytes generatorAt) (cond (isLong bytes) 5 2)
+      && eqb (byte bytes (limitsAt (width bytes))) 3
+      && all (dualsIn bytes) (λ l. eqb (byte bytes (dualAt (width bytes) l)) (cond (isLong bytes) 6 4))
 
--- SCOPE 7.3: 3: s is 2 to 6, and p divides it; so p is at most 6
-unfoldable pub sizesOk : List ℕ → Bool
-sizesOk bytes =
-    leb 2 (sizeExponent bytes) && leb (sizeExponent bytes) 6 && leb 1 (symbolDigits bytes) && eqb (sizeExponent bytes % symbolDigits bytes) 0
+  -- SCOPE 7.3: 3: s is 2 to 6, and 7 or 8 in the long form; p is 1 to 6 and divides s
+  unfoldable pub sizesOk : Bool
+  sizesOk =
+      leb (cond (isLong bytes) 7 2) (sizeExponent bytes)
+      && leb (sizeExponent bytes) (cond (isLong bytes) 8 6)
+      && leb 1 (symbolDigits bytes)
+      && leb (symbolDigits bytes) 6
+      && eqb (sizeExponent bytes % symbolDigits bytes) 0
 
 -- SCOPE 7.4: 4, at place j: c is a symbol, and zero where j is n or more
 abbrev pub placeOk : ℕ → ℕ → ℕ → ℕ → Bool
 placeOk q n j c = ltb c q && (ltb j n || eqb c 0)
 
-module _ (width : ℕ) (bytes : List ℕ) where
+module _ (bytes : List ℕ) where
   -- SCOPE 7.4: 4, at every place of the body of the record that starts at `start`
   unfoldable pub bodyOk : ℕ → Bool
-  bodyOk start = all width (λ j. placeOk (fieldOf bytes .q) (wordLength bytes) j (bodyPlace bytes start j))
+  bodyOk start = all (width bytes) (λ j. placeOk (fieldOf bytes .q) (wordLength bytes) j (bodyPlace bytes start j))
 
   -- SCOPE 7.15: 4, in every body of the book
   unfoldable pub symbolsOk : Bool
-  symbolsOk = bodyOk generatorAt && all (dualCount width (length bytes)) (λ l. bodyOk (dualAt width l))
+  symbolsOk = bodyOk generatorAt && all (dualsIn bytes) (λ l. bodyOk (dualAt (width bytes) l))
 
 -- ---- tests of the book that the bytes hold
 
@@ -88,13 +96,13 @@ unfoldable pub bookRefusal : FieldOps → Book → ℕ
 bookRefusal F B = unless (generatorOk F B) 5 (unless (limitsOk F B) 6 (unless (dualsOk F B) 7 (unless (distinctOk F B) 8 0)))
 
 -- SCOPE 7.14: the first number from 1 to 8 that applies to the bytes, 0 where the codebook is accepted (3.16)
-unfoldable pub refusal : ℕ → List ℕ → ℕ
-refusal width bytes =
-    unless (lengthOk width bytes) 1
-    (unless (kindsOk width bytes) 2
+unfoldable pub refusal : List ℕ → ℕ
+refusal bytes =
+    unless (lengthOk bytes) 1
+    (unless (kindsOk bytes) 2
     (unless (sizesOk bytes) 3
-    (unless (symbolsOk width bytes) 4
-    (bookRefusal (fieldOf bytes) (bookOf width bytes)))))
+    (unless (symbolsOk bytes) 4
+    (bookRefusal (fieldOf bytes) (bookOf bytes)))))
 
 -- ---- tests of an operation's input and outputs
 

@@ -1,4 +1,4 @@
--- Cases 1 to 14, the remainders, the words that are alike and the short messages, each list proved together of the definitions, and that the books they
+-- Cases 1 to 14, the remainders, the words that are alike, the short messages and the forms, each list proved together of the definitions, and that the books they
 -- use are accepted.
 -- Assumes nothing.
 use mathlib.Core.Path.{refl}
@@ -9,31 +9,35 @@ use Rattle.spec_word.specs.Word as W
 use Rattle.spec_word.specs.Division.{before, allZero, reduce, remainder, quotient, divides}
 use Rattle.spec_word.specs.CyclicCode.{unity, isCode}
 use Rattle.spec_word.specs.Alike.{isMultipleOfTurn, alike}
-use Rattle.spec_book.specs.Layout.{degreeOf, bookOf}
-use Rattle.spec_book.specs.Conditions.{lengthOk, kindsOk, sizesOk, bodyOk, symbolsOk, generatorOk, limitsOk, dualOk, dualsOk, distinctOk, bookRefusal, refusal, messageFits, inputOk, inputRefusal}
+use Rattle.spec_book.specs.Layout.{width, degreeOf, bookOf}
+use Rattle.spec_book.specs.Conditions.{lengthFits, lengthOk, kindsOk, sizesOk, bodyOk, symbolsOk, generatorOk, limitsOk, dualOk, dualsOk, distinctOk, bookRefusal, refusal, messageFits, inputOk, inputRefusal}
 use Rattle.spec_coding.specs.Coder.{encode, message}
 use Rattle.spec_decoding.specs.Matrix.{checkSum, checkValue, entryOf, matrixOf, cell}
 use Rattle.spec_decoding.specs.Decode.{peak, zeroCount, peakCount, holders, inUpdateSet, correction, emptyUpdateSet, corrected, run, decodeWith}
 use Rattle.spec_decoding.specs.Symmetry.{move}
 use Rattle.spec_operations.specs.Coding.{codeInputRefusal, codeRefusal}
-use Rattle.spec_cases.specs.Cases.{checks, codes, reads, declines, fills, decodes, holds, leaves, compares, moved, cases, remainders, likenesses, shorts, accepted, AllHold, none, _also_}
+use Rattle.spec_cases.specs.Cases.{checks, codes, reads, declines, fills, decodes, holds, leaves, compares, moved, cases, remainders, likenesses, shorts, forms, accepted, AllHold, none, _also_}
 
 pub cases-hold : AllHold cases
-unfolding codes fills decodes holds moved fold table polynomial timesX shiftAdd product first inverse W.at W.distance W.turn W.product W.scale W.plus before allZero reduce remainder isCode degreeOf bookOf encode checkSum checkValue entryOf matrixOf cell peak zeroCount peakCount holders inUpdateSet correction emptyUpdateSet corrected run decodeWith move
+unfolding codes fills decodes holds moved fold table polynomial timesX shiftAdd product first inverse W.at W.distance W.turn W.product W.scale W.plus before allZero reduce remainder isCode width degreeOf bookOf encode checkSum checkValue entryOf matrixOf cell peak zeroCount peakCount holders inUpdateSet correction emptyUpdateSet corrected run decodeWith move
 cases-hold = refl also refl also refl also refl also refl also refl also refl also refl also refl also refl also refl also refl also refl also refl also refl also none
 
 pub remainders-hold : AllHold remainders
-unfolding leaves fold table polynomial timesX shiftAdd product W.at before reduce remainder degreeOf bookOf
+unfolding leaves fold table polynomial timesX shiftAdd product W.at before reduce remainder width degreeOf bookOf
 remainders-hold = refl also refl also refl also refl also refl also none
 
 pub likenesses-hold : AllHold likenesses
-unfolding compares checks fold table polynomial timesX shiftAdd product W.at W.weight W.product isMultipleOfTurn alike before allZero reduce remainder divides unity degreeOf bookOf lengthOk kindsOk sizesOk bodyOk symbolsOk generatorOk limitsOk dualOk dualsOk distinctOk bookRefusal refusal
+unfolding compares checks fold table polynomial timesX shiftAdd product W.at W.weight W.product isMultipleOfTurn alike before allZero reduce remainder divides unity width degreeOf bookOf lengthFits lengthOk kindsOk sizesOk bodyOk symbolsOk generatorOk limitsOk dualOk dualsOk distinctOk bookRefusal refusal
 likenesses-hold = refl also refl also refl also refl also refl also refl also none
 
 pub shorts-hold : AllHold shorts
-unfolding codes reads declines fold table polynomial timesX shiftAdd product W.at W.weight W.product isMultipleOfTurn alike before allZero reduce remainder quotient divides unity degreeOf bookOf lengthOk kindsOk sizesOk bodyOk symbolsOk generatorOk limitsOk dualOk dualsOk distinctOk bookRefusal refusal messageFits inputOk inputRefusal encode message codeInputRefusal codeRefusal
+unfolding codes reads declines fold table polynomial timesX shiftAdd product W.at W.weight W.product isMultipleOfTurn alike before allZero reduce remainder quotient divides unity width degreeOf bookOf lengthFits lengthOk kindsOk sizesOk bodyOk symbolsOk generatorOk limitsOk dualOk dualsOk distinctOk bookRefusal refusal messageFits inputOk inputRefusal encode message codeInputRefusal codeRefusal
 shorts-hold = refl also refl also refl also refl also refl also refl also refl also refl also refl also refl also none
 
+pub forms-hold : AllHold forms
+unfolding checks fold width lengthFits lengthOk kindsOk sizesOk refusal
+forms-hold = refl also refl also refl also refl also refl also refl also refl also refl also refl also refl also refl also refl also refl also refl also none
+
 pub books-accepted : AllHold accepted
-unfolding checks fold table polynomial timesX shiftAdd product W.weight W.product before allZero reduce remainder divides unity degreeOf bookOf lengthOk kindsOk sizesOk bodyOk symbolsOk generatorOk limitsOk dualOk dualsOk distinctOk bookRefusal refusal
+unfolding checks fold table polynomial timesX shiftAdd product W.weight W.product before allZero reduce remainder divides unity width degreeOf bookOf lengthFits lengthOk kindsOk sizesOk bodyOk symbolsOk generatorOk limitsOk dualOk dualsOk distinctOk bookRefusal refusal
 books-accepted = refl also refl also refl also refl also refl also refl also none

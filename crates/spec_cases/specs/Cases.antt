@@ -10,14 +10,14 @@ use Rattle.spec_field.specs.Symbols.{product, gf}
 use Rattle.spec_word.specs.Word.{at}
 use Rattle.spec_word.specs.Alike.{alike}
 use Rattle.spec_book.specs.Book.{remainderBy}
-use Rattle.spec_book.specs.Layout.{width, fieldOf, bookOf, wordLength}
-use Rattle.spec_book.specs.Conditions.{refusal}
+use Rattle.spec_book.specs.Layout.{fieldOf, bookOf, wordLength, dualsIn}
+use Rattle.spec_book.specs.Conditions.{sizesOk, refusal}
 use Rattle.spec_coding.specs.Coder.{encode, message}
 use Rattle.spec_decoding.specs.Matrix.{matrix, cell}
 use Rattle.spec_decoding.specs.Decode.{Kind, holders, decode, mended, stalled, spent}
 use Rattle.spec_decoding.specs.Symmetry.{move}
 use Rattle.spec_operations.specs.Coding.{codeRefusal}
-use Rattle.spec_cases.specs.Books.{bodyOf, bookBytes, bookA, bookB, bookC}
+use Rattle.spec_cases.specs.Books.{bodyOf, bookBytes, bookA, bookB, bookC, headed}
 
 -- SCOPE 8.18: what is shown of an operation: numbers, or a kind, rounds, changed and the answer word
 pub data Shown : Type 0 where
@@ -30,7 +30,7 @@ pub data Shown : Type 0 where
 unfoldable pub checks : List ℕ → Shown
 checks book =
     let bytes = book in
-    let number = refusal width bytes in
+    let number = refusal bytes in
     numbers (number ∷ [])
 
 -- SCOPE 4.5: the word that code writes
@@ -38,7 +38,7 @@ unfoldable pub codes : List ℕ → List ℕ → Shown
 codes book f =
     let bytes = book in
     let F = fieldOf bytes in
-    let B = bookOf width bytes in
+    let B = bookOf bytes in
     let word = encode F B f in
     numbers word
 
@@ -47,7 +47,7 @@ unfoldable pub reads : List ℕ → List ℕ → Shown
 reads book w =
     let bytes = book in
     let F = fieldOf bytes in
-    let B = bookOf width bytes in
+    let B = bookOf bytes in
     let f = message F B w in
     numbers f
 
@@ -62,7 +62,7 @@ unfoldable pub fills : List ℕ → List ℕ → Shown
 fills book r =
     let bytes = book in
     let F = fieldOf bytes in
-    let B = bookOf width bytes in
+    let B = bookOf bytes in
     let entries = matrix F B (at (B .n) r) in
     numbers entries
 
@@ -71,7 +71,7 @@ unfoldable pub decodes : List ℕ → List ℕ → Shown
 decodes book r =
     let bytes = book in
     let F = fieldOf bytes in
-    let B = bookOf width bytes in
+    let B = bookOf bytes in
     let x = decode F B r in
     decoded (x .kind) (x .rounds) (x .changed) (x .answer)
 
@@ -80,7 +80,7 @@ unfoldable pub holds : List ℕ → List ℕ → Shown
 holds book r =
     let bytes = book in
     let F = fieldOf bytes in
-    let B = bookOf width bytes in
+    let B = bookOf bytes in
     let entries = matrix F B (at (B .n) r) in
     numbers (table (B .n) (holders F B (cell F B entries)))
 
@@ -89,7 +89,7 @@ unfoldable pub leaves : List ℕ → List ℕ → Shown
 leaves book w =
     let bytes = book in
     let F = fieldOf bytes in
-    let B = bookOf width bytes in
+    let B = bookOf bytes in
     let R = remainderBy F B (at (B .n) w) in
     numbers R
 
@@ -187,6 +187,30 @@ shorts =
     ∷ (numbers (declines (bookA 1) (1 ∷ 0 ∷ 0 ∷ 0 ∷ []) ∷ declines (bookA 1) (1 ∷ 0 ∷ 0 ∷ 0 ∷ 0 ∷ []) ∷ []) ≡ numbers (0 ∷ 9 ∷ []))
     -- B: k is 1, so that no message is short: 9 for no symbols, 0 for 1, 9 for 2
     ∷ (numbers (declines bookB [] ∷ declines bookB (2 ∷ []) ∷ declines bookB (2 ∷ 0 ∷ []) ∷ []) ≡ numbers (9 ∷ 0 ∷ 9 ∷ []))
+    ∷ []
+
+-- SCOPE 8.23: the two forms of a book
+abbrev pub forms : List (Type 0)
+forms =
+    -- 134 bytes with byte 3 = 5; 2310 bytes with byte 3 = 9 and with 2
+    (checks (headed 5 134) ≡ numbers (1 ∷ []))
+    ∷ (checks (headed 9 2310) ≡ numbers (2 ∷ []))
+    ∷ (checks (headed 2 2310) ≡ numbers (1 ∷ []))
+    -- 518 bytes: 7 dual words in the short form, one in the long
+    ∷ (numbers (dualsIn (headed 2 518) ∷ dualsIn (headed 5 518) ∷ []) ≡ numbers (7 ∷ 1 ∷ []))
+    -- long: s 7 with p 1, s 8 with p 1, 2 and 4
+    ∷ (sizesOk (1 ∷ 7 ∷ 1 ∷ 5 ∷ []) ≡ true)
+    ∷ (sizesOk (1 ∷ 8 ∷ 1 ∷ 5 ∷ []) ≡ true)
+    ∷ (sizesOk (1 ∷ 8 ∷ 2 ∷ 5 ∷ []) ≡ true)
+    ∷ (sizesOk (1 ∷ 8 ∷ 4 ∷ 5 ∷ []) ≡ true)
+    -- long: not s 7 with p 7, s 8 with p 3 and 8, and s 6
+    ∷ (sizesOk (1 ∷ 7 ∷ 7 ∷ 5 ∷ []) ≡ false)
+    ∷ (sizesOk (1 ∷ 8 ∷ 3 ∷ 5 ∷ []) ≡ false)
+    ∷ (sizesOk (1 ∷ 8 ∷ 8 ∷ 5 ∷ []) ≡ false)
+    ∷ (sizesOk (1 ∷ 6 ∷ 1 ∷ 5 ∷ []) ≡ false)
+    -- short: s 6 with p 6, and not s 7
+    ∷ (sizesOk (1 ∷ 6 ∷ 6 ∷ 2 ∷ []) ≡ true)
+    ∷ (sizesOk (1 ∷ 7 ∷ 1 ∷ 2 ∷ []) ≡ false)
     ∷ []
 
 -- every case of a list holds

@@ -35,18 +35,18 @@ move-plain F laws n pos v w h =
     back : (j : ℕ) → at n w (j + (n - 0 % n)) ≡ at n w j
     back j = ap (at n w) (omega (arith, zero-mod n)) ∙ at-period n w j
 
-module _ (width : ℕ) (wide : 63 ≤ width) (bytes : List ℕ) (e : refusal width bytes ≡ 0) where
+module _ (bytes : List ℕ) (e : refusal bytes ≡ 0) where
   abbrev F : FieldOps
   F = fieldOf bytes
 
   abbrev B : Book
-  B = bookOf width bytes
+  B = bookOf bytes
 
   laws : FieldLaws F
-  laws = let s = accepted width wide bytes e .0 in gf-laws (symbolDigits bytes) (s .p-low) (s .p-high)
+  laws = let s = accepted bytes e .0 in gf-laws (symbolDigits bytes) (s .p-low) (s .p-high)
 
   pos : 0 < B .n
-  pos = let g = accepted width wide bytes e .1 .generates in omega (arith, g .degree-lt)
+  pos = let g = accepted bytes e .1 .generates in omega (arith, g .degree-lt)
 
   -- x is the result for an error alone, y that for the error on the code word v
   pub record Blank (v : List ℕ) (x y : Result) : Type 0 where
@@ -79,7 +79,7 @@ module _ (width : ℕ) (wide : 63 ≤ width) (bytes : List ℕ) (e : refusal wid
       moved : Moved F B 0 1 v x y
       moved =
           subst (λ (w : List ℕ). Moved F B 0 1 v x (decode F B w)) (move-plain F laws (B .n) pos v error h)
-          (demand-3 width wide bytes e 0 1 (omega arith) (laws .one-below) v hv code error h)
+          (demand-3 bytes e 0 1 (omega arith) (laws .one-below) v hv code error h)
 
       added : y .answer ≡ plus F (B .n) (x .answer) v
       added = moved .moved-answer ∙ move-plain F laws (B .n) pos v (x .answer) (decode-answer F laws B pos (matrix F B) error h)

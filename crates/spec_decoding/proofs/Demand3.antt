@@ -16,19 +16,19 @@ use Rattle.spec_decoding.specs.Decode.{decode}
 use Rattle.spec_decoding.specs.Symmetry.{move, Moved}
 use Rattle.spec_decoding.proofs.Symmetry.{move-symbols, symmetry}
 
-module _ (width : ℕ) (wide : 63 ≤ width) (bytes : List ℕ) (e : refusal width bytes ≡ 0) where
+module _ (bytes : List ℕ) (e : refusal bytes ≡ 0) where
   abbrev F : FieldOps
   F = fieldOf bytes
 
   abbrev B : Book
-  B = bookOf width bytes
+  B = bookOf bytes
 
   -- the moved word is a word
   pub moved-word : (t c : ℕ) → 0 < c → c < F .q
       → (v : List ℕ) → SymbolList F (B .n) v → T (isCodeWord F B (at (B .n) v))
       → (r : List ℕ) → SymbolList F (B .n) (move F (B .n) t c v r)
   moved-word =
-      let ok = accepted width wide bytes e in
+      let ok = accepted bytes e in
       move-symbols F (gf-laws (symbolDigits bytes) (ok .0 .p-low) (ok .0 .p-high)) B (ok .1)
 
   pub demand-3 : (t c : ℕ) → 0 < c → c < F .q
@@ -36,5 +36,5 @@ module _ (width : ℕ) (wide : 63 ≤ width) (bytes : List ℕ) (e : refusal wid
       → (r : List ℕ) → SymbolList F (B .n) r
       → Moved F B t c v (decode F B r) (decode F B (move F (B .n) t c v r))
   demand-3 =
-      let ok = accepted width wide bytes e in
+      let ok = accepted bytes e in
       symmetry F (gf-laws (symbolDigits bytes) (ok .0 .p-low) (ok .0 .p-high)) B (ok .1)

@@ -22,7 +22,7 @@ use Rattle.spec_word.proofs.Product.{product-below}
 use Rattle.spec_word.proofs.Division.{remainder-below}
 use Rattle.spec_word.proofs.Quotient.{quotientAt, quotient-at}
 use Rattle.spec_book.specs.Book.{Book, messageLength, isCodeWord}
-use Rattle.spec_book.specs.Layout.{width, fieldOf, bookOf}
+use Rattle.spec_book.specs.Layout.{fieldOf, bookOf}
 use Rattle.spec_book.specs.Conditions.{unless, refusal, messageFits, codeWordRefusal}
 use Rattle.spec_book.proofs.Sound.{passed}
 use Rattle.spec_book.proofs.Known.{book-laws, book-accepted}
@@ -35,14 +35,14 @@ use Rattle.spec_operations.proofs.Wrote.{goes-on}
 
 -- ---- a whole call, where n was found for the book
 
-module _ (bytes input : List ℕ) (room : ℕ) {n : ℕ} (e : n ≡ refusal width bytes) where
+module _ (bytes input : List ℕ) (room : ℕ) {n : ℕ} (e : n ≡ refusal bytes) where
   pub code-refused : (n ≡ 0 → ⊥) → n ≡ codeRefusal bytes input room
   unfolding codeRefusal
-  code-refused h = found-first n (refusal width bytes) _ e h
+  code-refused h = found-first n (refusal bytes) _ e h
 
   pub read-refused : (n ≡ 0 → ⊥) → n ≡ readRefusal bytes input room
   unfolding readRefusal
-  read-refused h = found-first n (refusal width bytes) _ e h
+  read-refused h = found-first n (refusal bytes) _ e h
 
   module _ (z : n ≡ 0) {new old out : List ℕ} {a : Answer} where
     pub code-goes-on : Wrote (codeInputRefusal bytes input room) new old a out → Wrote (codeRefusal bytes input room) new old a out
@@ -60,10 +60,10 @@ module _ (bytes word : List ℕ) (room : ℕ) {n : ℕ} (e : n ≡ readInputRefu
   unfolding readWordRefusal
   word-refused h = found-first n (readInputRefusal bytes word room) _ e h
 
-  module _ (z : n ≡ 0) {t : Bool} (tested : t ≡ isCodeWord (fieldOf bytes) (bookOf width bytes) (at (bookOf width bytes .n) word)) where
+  module _ (z : n ≡ 0) {t : Bool} (tested : t ≡ isCodeWord (fieldOf bytes) (bookOf bytes) (at (bookOf bytes .n) word)) where
     last : unless t 12 0 ≡ readWordRefusal bytes word room
     unfolding readWordRefusal codeWordRefusal
-    last = ap (λ (t : Bool). unless t 12 0) tested ∙ found-next n (readInputRefusal bytes word room) (codeWordRefusal (fieldOf bytes) (bookOf width bytes) word) e z
+    last = ap (λ (t : Bool). unless t 12 0) tested ∙ found-next n (readInputRefusal bytes word room) (codeWordRefusal (fieldOf bytes) (bookOf bytes) word) e z
 
     pub no-code-word : {m : ℕ} → t ≡ false → m ≡ 12 → m ≡ readWordRefusal bytes word room
     no-code-word f k = k ∙ ap (λ (t : Bool). unless t 12 0) (sym f) ∙ last
@@ -103,28 +103,28 @@ module _ (bytes : List ℕ) where
   F = fieldOf bytes
 
   abbrev B : Book
-  B = bookOf width bytes
+  B = bookOf bytes
 
   -- ---- the number 0
 
   module _ (input : List ℕ) (room : ℕ) where
     code-accepted : codeRefusal bytes input room ≡ 0
-        → (refusal width bytes ≡ 0) × AcceptedInput (F .q) (messageFits (messageLength B) (length input)) (eqb room (B .n)) input
+        → (refusal bytes ≡ 0) × AcceptedInput (F .q) (messageFits (messageLength B) (length input)) (eqb room (B .n)) input
     unfolding codeRefusal codeInputRefusal
-    code-accepted z = let both = neither (refusal width bytes) _ z in (both .0, accepted-input _ _ _ input (both .1))
+    code-accepted z = let both = neither (refusal bytes) _ z in (both .0, accepted-input _ _ _ input (both .1))
 
     read-accepted : readRefusal bytes input room ≡ 0
-        → (refusal width bytes ≡ 0) × AcceptedInput (F .q) (eqb (length input) (B .n)) (eqb room (messageLength B)) input × T (isCodeWord F B (at (B .n) input))
+        → (refusal bytes ≡ 0) × AcceptedInput (F .q) (eqb (length input) (B .n)) (eqb room (messageLength B)) input × T (isCodeWord F B (at (B .n) input))
     unfolding readRefusal readWordRefusal readInputRefusal codeWordRefusal
     read-accepted z =
-        let book = neither (refusal width bytes) _ z in
+        let book = neither (refusal bytes) _ z in
         let word = neither (readInputRefusal bytes input room) _ (book .1) in
         (book .0, accepted-input _ _ _ input (word .0), passed (isCodeWord F B (at (B .n) input)) 11 0 (word .1) .0)
 
   -- ---- a message that is not refused
 
   module _ (f : List ℕ) (room : ℕ) (z : codeRefusal bytes f room ≡ 0) where
-    abbrev ok : refusal width bytes ≡ 0
+    abbrev ok : refusal bytes ≡ 0
     ok = code-accepted f room z .0
 
     size : length f ≤ messageLength B
@@ -148,7 +148,7 @@ module _ (bytes : List ℕ) where
   -- ---- a code word that is not refused
 
   module _ (w : List ℕ) (room : ℕ) (z : readRefusal bytes w room ≡ 0) where
-    abbrev sound : refusal width bytes ≡ 0
+    abbrev sound : refusal bytes ≡ 0
     sound = read-accepted w room z .0
 
     places : Symbols F (at (B .n) w)

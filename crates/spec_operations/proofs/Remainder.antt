@@ -14,7 +14,7 @@ use Rattle.spec_word.proofs.Place.{at-plus}
 use Rattle.spec_word.proofs.CyclicCode.{isCode-cong}
 use Rattle.spec_word.proofs.Unique.{equal-remainders, difference-of-equal, remainder-added, remainder-same, code-remainder, code-of-zero}
 use Rattle.spec_book.specs.Book.{Book}
-use Rattle.spec_book.specs.Layout.{width, fieldOf, bookOf}
+use Rattle.spec_book.specs.Layout.{fieldOf, bookOf}
 use Rattle.spec_book.specs.Conditions.{refusal}
 use Rattle.spec_book.proofs.Known.{book-laws, book-accepted}
 use Rattle.spec_book.proofs.Inputs.{input-accepted, word-input}
@@ -24,10 +24,10 @@ use Rattle.spec_operations.proofs.Wrote.{goes-on, wrote-new, wrote-done
 
 -- ---- a whole call, where k was found for the book
 
-module _ (bytes input : List ℕ) (room : ℕ) {k : ℕ} (e : k ≡ refusal width bytes) where
+module _ (bytes input : List ℕ) (room : ℕ) {k : ℕ} (e : k ≡ refusal bytes) where
   pub remainder-refused : (k ≡ 0 → ⊥) → k ≡ remainderRefusal bytes input room
   unfolding remainderRefusal
-  remainder-refused h = found-first k (refusal width bytes) _ e h
+  remainder-refused h = found-first k (refusal bytes) _ e h
 
   pub remainder-goes-on : {new old out : List ℕ} {a : Answer} → k ≡ 0
       → Wrote (remainderInputRefusal bytes input room) new old a out → Wrote (remainderRefusal bytes input room) new old a out
@@ -39,11 +39,11 @@ module _ (bytes : List ℕ) where
   F = fieldOf bytes
 
   abbrev B : Book
-  B = bookOf width bytes
+  B = bookOf bytes
 
   open Book B using (n, degree, generator)
 
-  remainder-accepted : {w : List ℕ} {room : ℕ} → refusal width bytes ≡ 0 → IsWord F n w → room ≡ degree → remainderRefusal bytes w room ≡ 0
+  remainder-accepted : {w : List ℕ} {room : ℕ} → refusal bytes ≡ 0 → IsWord F n w → room ≡ degree → remainderRefusal bytes w room ≡ 0
   unfolding remainderRefusal remainderInputRefusal
   remainder-accepted ok word size = ap₂ orElse ok (input-accepted (word-input word (eq→eqb size)))
 

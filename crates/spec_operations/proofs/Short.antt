@@ -15,7 +15,7 @@ use Rattle.spec_field.specs.Answer.{Answer, answer, done, refused, orElse}
 use Rattle.spec_field.proofs.Laws.{zero-below}
 use Rattle.spec_word.specs.Division.{coefficients}
 use Rattle.spec_book.specs.Book.{Book, messageLength}
-use Rattle.spec_book.specs.Layout.{width, fieldOf, bookOf}
+use Rattle.spec_book.specs.Layout.{fieldOf, bookOf}
 use Rattle.spec_book.specs.Conditions.{unless, refusal, messageFits, inputOk, inputRefusal}
 use Rattle.spec_book.proofs.Known.{book-laws}
 use Rattle.spec_book.proofs.Inputs.{fits-low, fits-high, full-fits}
@@ -31,7 +31,7 @@ module _ (bytes f : List ℕ) where
   F = fieldOf bytes
 
   abbrev B : Book
-  B = bookOf width bytes
+  B = bookOf bytes
 
   abbrev whole : List ℕ
   whole = writtenOut B f
@@ -41,7 +41,7 @@ module _ (bytes f : List ℕ) where
     short = fits-high (messageLength B) (length f) fits
 
     -- the zeros are symbols
-    same-symbols : refusal width bytes ≡ 0 → inputOk (F .q) f ≡ inputOk (F .q) whole
+    same-symbols : refusal bytes ≡ 0 → inputOk (F .q) f ≡ inputOk (F .q) whole
     unfolding inputOk
     same-symbols ok =
         sym (fold-extend _&&_ true tests (length f) (messageLength B) short (λ j. ltb (coefficients f j) (F .q)) zero-symbol)
@@ -61,9 +61,9 @@ module _ (bytes f : List ℕ) where
 
     same-number : (room : ℕ) → codeRefusal bytes f room ≡ codeRefusal bytes whole room
     unfolding codeRefusal codeInputRefusal inputRefusal
-    same-number room = go (refusal width bytes) refl
+    same-number room = go (refusal bytes) refl
       where
-        go : (number : ℕ) → refusal width bytes ≡ number → orElse number (codeInputRefusal bytes f room) ≡ orElse number (codeInputRefusal bytes whole room)
+        go : (number : ℕ) → refusal bytes ≡ number → orElse number (codeInputRefusal bytes f room) ≡ orElse number (codeInputRefusal bytes whole room)
         go zero ok = ap₂ (λ (size symbols : Bool). unless size 9 (unless (eqb room (B .n)) 10 (unless symbols 11 0))) same-fit (same-symbols ok)
         go (suc number) _ = refl
 
@@ -86,7 +86,7 @@ module _ {bytes f f′ old w old′ w′ : List ℕ} {room room′ : ℕ} {a a�
         same-answer = h .says ∙ ap (λ (n : ℕ). answer n []) number ∙ sym (h′ .says);
         same-word = λ d.
             let z : codeRefusal bytes f room ≡ 0 = made _ (sym (h .says) ∙ d) in
-            wrote-new z h ∙ sym (encode-written-out (bookOf width bytes) f (fieldOf bytes)) ∙ ap (coded bytes) (sym (given .written-out))
+            wrote-new z h ∙ sym (encode-written-out (bookOf bytes) f (fieldOf bytes)) ∙ ap (coded bytes) (sym (given .written-out))
             ∙ sym (wrote-new (sym number ∙ z) h′);
       }
     where

@@ -5,7 +5,7 @@ use mathlib.Core.List.{List}
 use Prim.Native.Nat.{ℕ}
 use Rattle.spec_field.specs.Answer.{Answer}
 use Rattle.spec_book.specs.Book.{messageLength}
-use Rattle.spec_book.specs.Layout.{width, bookOf}
+use Rattle.spec_book.specs.Layout.{bookOf}
 use Rattle.spec_coding.specs.Coder.{writtenOut}
 use Rattle.spec_operations.specs.Wrote.{Wrote}
 use Rattle.spec_operations.specs.Coding.{codeRefusal, coded, readRefusal, messageOf}
@@ -16,7 +16,7 @@ use Rattle.spec_operations.proofs.Coding.{coded-accepted, coded-read, m
 module _ (bytes given : List ℕ) (room room′ : ℕ) {buffer₀ buffer back₀ back : List ℕ} {a a′ : Answer} where
   pub code-then-read : Wrote (codeRefusal bytes given room) (coded bytes given) buffer₀ a buffer
       → Wrote (readRefusal bytes buffer room′) (messageOf bytes buffer) back₀ a′ back
-      → codeRefusal bytes given room ≡ 0 → room′ ≡ messageLength (bookOf width bytes) → GivenBack a a′ (writtenOut (bookOf width bytes) given) back
+      → codeRefusal bytes given room ≡ 0 → room′ ≡ messageLength (bookOf bytes) → GivenBack a a′ (writtenOut (bookOf bytes) given) back
   code-then-read h k z e =
       let made : buffer ≡ coded bytes given = wrote-new z h in
       let z′ : readRefusal bytes buffer room′ ≡ 0 = rw made (coded-accepted bytes given room z room′ e) in
@@ -28,7 +28,7 @@ module _ (bytes given : List ℕ) (room room′ : ℕ) {buffer₀ buffer back₀
 
   pub read-then-code : Wrote (readRefusal bytes given room) (messageOf bytes given) buffer₀ a buffer
       → Wrote (codeRefusal bytes buffer room′) (coded bytes buffer) back₀ a′ back
-      → readRefusal bytes given room ≡ 0 → room′ ≡ bookOf width bytes .n → GivenBack a a′ given back
+      → readRefusal bytes given room ≡ 0 → room′ ≡ bookOf bytes .n → GivenBack a a′ given back
   read-then-code h k z e =
       let made : buffer ≡ messageOf bytes given = wrote-new z h in
       let z′ : codeRefusal bytes buffer room′ ≡ 0 = rw made (message-accepted bytes given room z room′ e) in

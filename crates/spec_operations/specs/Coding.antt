@@ -7,7 +7,7 @@ use lib.ListN.{length}
 use Rattle.spec_field.specs.Field.{FieldOps}
 use Rattle.spec_field.specs.Answer.{orElse}
 use Rattle.spec_book.specs.Book.{Book, messageLength}
-use Rattle.spec_book.specs.Layout.{width, fieldOf, bookOf}
+use Rattle.spec_book.specs.Layout.{fieldOf, bookOf}
 use Rattle.spec_book.specs.Conditions.{refusal, messageFits, inputRefusal, codeWordRefusal}
 use Rattle.spec_coding.specs.Coder.{encode, message}
 
@@ -18,7 +18,7 @@ module _ (bytes : List ℕ) where
 
   -- SCOPE 3.1: the book
   abbrev B : Book
-  B = bookOf width bytes
+  B = bookOf bytes
 
   -- SCOPE 7.18: code, once the book is accepted: 9 to 11 for 1 to k symbols and an output of n bytes
   unfoldable pub codeInputRefusal : List ℕ → ℕ → ℕ
@@ -26,7 +26,7 @@ module _ (bytes : List ℕ) where
 
   -- SCOPE 7.18: code: 1 to 8, then these
   unfoldable pub codeRefusal : List ℕ → ℕ → ℕ
-  codeRefusal f room = orElse (refusal width bytes) (codeInputRefusal f room)
+  codeRefusal f room = orElse (refusal bytes) (codeInputRefusal f room)
 
   -- SCOPE 4.5: what code writes
   abbrev pub coded : List ℕ → List ℕ
@@ -42,7 +42,7 @@ module _ (bytes : List ℕ) where
 
   -- SCOPE 7.18: read: 1 to 8, then these
   unfoldable pub readRefusal : List ℕ → ℕ → ℕ
-  readRefusal w room = orElse (refusal width bytes) (readWordRefusal w room)
+  readRefusal w room = orElse (refusal bytes) (readWordRefusal w room)
 
   -- SCOPE 4.6: what read writes
   abbrev pub messageOf : List ℕ → List ℕ

@@ -10,7 +10,7 @@ use Rattle.spec_field.specs.Field.{FieldOps}
 use Rattle.spec_field.specs.Answer.{Answer, answer, orElse, left}
 use Rattle.spec_word.specs.Word.{at}
 use Rattle.spec_book.specs.Book.{Book}
-use Rattle.spec_book.specs.Layout.{width, fieldOf, bookOf}
+use Rattle.spec_book.specs.Layout.{fieldOf, bookOf}
 use Rattle.spec_book.specs.Conditions.{refusal, inputRefusal}
 use Rattle.spec_decoding.specs.Matrix.{matrix}
 use Rattle.spec_decoding.specs.Decode.{Result, letter, decode}
@@ -22,7 +22,7 @@ module _ (bytes : List ℕ) where
 
   -- SCOPE 3.1: the book
   abbrev B : Book
-  B = bookOf width bytes
+  B = bookOf bytes
 
   -- SCOPE 7.17: the exact size of a matrix, q × n entries
   abbrev pub matrixSize : ℕ
@@ -34,7 +34,7 @@ module _ (bytes : List ℕ) where
 
   -- SCOPE 7.18: matrix: 1 to 8, then 9 to 11
   unfoldable pub matrixRefusal : List ℕ → ℕ → ℕ
-  matrixRefusal r entries = orElse (refusal width bytes) (matrixInputRefusal r entries)
+  matrixRefusal r entries = orElse (refusal bytes) (matrixInputRefusal r entries)
 
   -- SCOPE 4.13: what matrix writes
   abbrev pub matrixBytes : List ℕ → List ℕ
@@ -46,7 +46,7 @@ module _ (bytes : List ℕ) where
 
   -- SCOPE 7.18: decode: 1 to 8, then 9 to 11
   unfoldable pub decodeRefusal : List ℕ → ℕ → ℕ → ℕ
-  decodeRefusal r answer entries = orElse (refusal width bytes) (decodeInputRefusal r answer entries)
+  decodeRefusal r answer entries = orElse (refusal bytes) (decodeInputRefusal r answer entries)
 
   -- SCOPE 4.16: what decode answers and writes
   abbrev pub decodeBytes : List ℕ → Result

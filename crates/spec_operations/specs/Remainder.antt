@@ -11,7 +11,7 @@ use Rattle.spec_field.specs.Field.{FieldOps}
 use Rattle.spec_field.specs.Answer.{Answer, done, orElse}
 use Rattle.spec_word.specs.Word.{IsWord, at, plus}
 use Rattle.spec_book.specs.Book.{Book, remainderBy, isCodeWord}
-use Rattle.spec_book.specs.Layout.{width, fieldOf, bookOf}
+use Rattle.spec_book.specs.Layout.{fieldOf, bookOf}
 use Rattle.spec_book.specs.Conditions.{refusal, inputRefusal}
 
 module _ (bytes : List ℕ) where
@@ -21,7 +21,7 @@ module _ (bytes : List ℕ) where
 
   -- SCOPE 3.1: the book
   abbrev B : Book
-  B = bookOf width bytes
+  B = bookOf bytes
 
   -- SCOPE 7.18: remainder, once the book is accepted: 9 to 11 for n symbols and an output of n − k bytes, which is the degree
   unfoldable pub remainderInputRefusal : List ℕ → ℕ → ℕ
@@ -29,7 +29,7 @@ module _ (bytes : List ℕ) where
 
   -- SCOPE 7.18: remainder: 1 to 8, then these
   unfoldable pub remainderRefusal : List ℕ → ℕ → ℕ
-  remainderRefusal w room = orElse (refusal width bytes) (remainderInputRefusal w room)
+  remainderRefusal w room = orElse (refusal bytes) (remainderInputRefusal w room)
 
   -- SCOPE 4.32: what remainder writes
   abbrev pub remainderOf : List ℕ → List ℕ
@@ -39,7 +39,7 @@ module _ (bytes : List ℕ) where
 
   -- SCOPE 5.18: what the two calls are given: two words of an accepted book, and outputs of these sizes
   pub record GivenTwo (w w′ : List ℕ) (room room′ : ℕ) : Type 0 where
-    pub accepted : refusal width bytes ≡ 0
+    pub accepted : refusal bytes ≡ 0
     pub word : IsWord F (B .n) w
     pub word′ : IsWord F (B .n) w′
     pub size : room ≡ B .degree

@@ -8,7 +8,7 @@ use Rattle.spec_field.specs.Field.{FieldOps}
 use Rattle.spec_field.specs.Answer.{Answer, done}
 use Rattle.spec_word.specs.Word.{IsWord, at}
 use Rattle.spec_book.specs.Book.{Book, isCodeWord}
-use Rattle.spec_book.specs.Layout.{width, fieldOf, bookOf}
+use Rattle.spec_book.specs.Layout.{fieldOf, bookOf}
 use Rattle.spec_book.specs.Conditions.{refusal}
 use Rattle.spec_decoding.specs.Decode.{Result}
 use Rattle.spec_decoding.specs.Symmetry.{move, Moved}
@@ -21,12 +21,12 @@ module _ (bytes : List ℕ) where
 
   -- SCOPE 3.1: the book
   abbrev B : Book
-  B = bookOf width bytes
+  B = bookOf bytes
 
   -- SCOPE 5.10: what the two calls are given: words r and r′, outputs of these sizes
   pub record Given (t c : ℕ) (v r r′ : List ℕ) (answer entries answer′ entries′ : ℕ) : Type 0 where
     -- SCOPE 5.10: the codebook of both calls is accepted, and the outputs of both have the exact sizes
-    pub accepted : refusal width bytes ≡ 0
+    pub accepted : refusal bytes ≡ 0
     pub answer-size : answer ≡ B .n
     pub entries-size : entries ≡ F .q * B .n
     pub answer-size′ : answer′ ≡ B .n

@@ -8,7 +8,6 @@ use native.Mathlib.Omega.{arith}
 use borrow.Author.Tests.{le-leb, lt-leb}
 use lib.ListN.{length, take, drop, length-take, take-append-drop}
 use lib.Seq.{length-take-le, drop-drop}
-use Rattle.spec_book.specs.Layout.{width}
 use Rattle.spec_book.specs.Conditions.{refusal}
 use Rattle.spec_book.proofs.Known.{n-pos}
 use Rattle.spec_program.specs.Line.{refusalLine}
@@ -51,21 +50,21 @@ module _ (field rest : List ℕ) (whole : 2 ≤ length field) where
   abbrev wanted : ℕ → List ℕ
   wanted k = openingText k ++ wordsText k book (drop size rest)
 
-  -- "a length above 2118"
-  number-too-long : 2118 < size → number ≡ 1
+  -- "a length above 8454"
+  number-too-long : 8454 < size → number ≡ 1
   unfolding openingRefusal
-  number-too-long h = rw (le-leb 2 (length field) whole, lt-leb size 2118 h)
+  number-too-long h = rw (le-leb 2 (length field) whole, lt-leb size 8454 h)
 
-  too-long : 2118 < size → printed ≡ wanted number
+  too-long : 8454 < size → printed ≡ wanted number
   too-long h =
       judged-run field [] rest 1 (verdict-too-long field [] whole h) (λ e. absurd (omega arith)) ∙ ap wanted (sym (number-too-long h))
 
-  module _ (sized : size ≤ 2118) where
+  module _ (sized : size ≤ 8454) where
     -- a "short .. codebook"
     number-too-short : length rest < size → number ≡ 1
     unfolding openingRefusal
     number-too-short h =
-        rw (le-leb 2 (length field) whole, le-leb size 2118 sized, lt-leb size (length book) (omega (arith, length-take size rest)))
+        rw (le-leb 2 (length field) whole, le-leb size 8454 sized, lt-leb size (length book) (omega (arith, length-take size rest)))
 
     -- bytes of the book
     module _ (some : 0 < size) (a : List ℕ) (fits : length a ≤ size) where
@@ -99,10 +98,10 @@ module _ (field rest : List ℕ) (whole : 2 ≤ length field) where
 
     module _ (enough : size ≤ length rest) where
       -- the book's own number
-      number-own : number ≡ refusal width book
+      number-own : number ≡ refusal book
       unfolding openingRefusal
       number-own =
-          rw (le-leb 2 (length field) whole, le-leb size 2118 sized, le-leb size (length book) (omega (arith, length-take-le size rest enough)))
+          rw (le-leb 2 (length field) whole, le-leb size 8454 sized, le-leb size (length book) (omega (arith, length-take-le size rest enough)))
 
       -- the book comes whole, which may have no byte
       book-came : Dec (0 < size) → printed ≡ verdictText (verdict field book) ++ lastText (opened start field book) (drop size rest)
@@ -116,14 +115,14 @@ module _ (field rest : List ℕ) (whole : 2 ≤ length field) where
       long-enough : printed ≡ wanted number
       long-enough =
           book-came (decLt 0 size)
-          ∙ judged-run field book (drop size rest) (refusal width book)
+          ∙ judged-run field book (drop size rest) (refusal book)
           (verdict-whole-book field book whole sized (omega (arith, length-take-le size rest enough))) (λ e. n-pos book e)
           ∙ ap wanted (sym number-own)
 
   field-came : printed ≡ wanted number
-  field-came = by-size (decLt 2118 size) (decLt (length rest) size)
+  field-came = by-size (decLt 8454 size) (decLt (length rest) size)
     where
-      by-size : Dec (2118 < size) → Dec (length rest < size) → printed ≡ wanted number
+      by-size : Dec (8454 < size) → Dec (length rest < size) → printed ≡ wanted number
       by-size (yes h) d = too-long h
       by-size (no h) (yes l) = too-short (omega arith) l
       by-size (no h) (no l) = long-enough (omega arith) (omega arith)

@@ -5,7 +5,6 @@ use mathlib.Core.List.{List, [], _∷_, _++_}
 use Prim.Native.Nat.{ℕ, zero, suc, _+_, _≤_, _<_}
 use borrow.Author.Tests.{lt-ltb, le-ltb}
 use lib.ListN.{length}
-use Rattle.spec_book.specs.Layout.{width}
 use Rattle.spec_book.specs.Conditions.{refusal}
 use Rattle.spec_program.specs.Line.{refusalLine}
 use Rattle.spec_program.specs.Output.{bookLength, openingText}
@@ -20,17 +19,17 @@ unfolding verdict
 verdict-short-field field book h = rw (lt-ltb (length field) 2 h)
 
 module _ (field book : List ℕ) (whole : 2 ≤ length field) where
-  pub verdict-too-long : 2118 < bookLength field → verdict field book ≡ judged 1
+  pub verdict-too-long : 8454 < bookLength field → verdict field book ≡ judged 1
   unfolding verdict
-  verdict-too-long h = rw (le-ltb (length field) 2 whole, lt-ltb 2118 (bookLength field) h)
+  verdict-too-long h = rw (le-ltb (length field) 2 whole, lt-ltb 8454 (bookLength field) h)
 
-  pub verdict-short-book : bookLength field ≤ 2118 → length book < bookLength field → verdict field book ≡ coming
+  pub verdict-short-book : bookLength field ≤ 8454 → length book < bookLength field → verdict field book ≡ coming
   unfolding verdict
-  verdict-short-book h l = rw (le-ltb (length field) 2 whole, le-ltb 2118 (bookLength field) h, lt-ltb (length book) (bookLength field) l)
+  verdict-short-book h l = rw (le-ltb (length field) 2 whole, le-ltb 8454 (bookLength field) h, lt-ltb (length book) (bookLength field) l)
 
-  pub verdict-whole-book : bookLength field ≤ 2118 → bookLength field ≤ length book → verdict field book ≡ judged (refusal width book)
+  pub verdict-whole-book : bookLength field ≤ 8454 → bookLength field ≤ length book → verdict field book ≡ judged (refusal book)
   unfolding verdict
-  verdict-whole-book h l = rw (le-ltb (length field) 2 whole, le-ltb 2118 (bookLength field) h, le-ltb (length book) (bookLength field) l)
+  verdict-whole-book h l = rw (le-ltb (length field) 2 whole, le-ltb 8454 (bookLength field) h, le-ltb (length book) (bookLength field) l)
 
 -- a refused book prints its line and ends the run
 pub opening-line : (number : ℕ) → (number ≡ 0 → ⊥) → openingText number ≡ refusalLine number
@@ -140,7 +139,7 @@ module _ (s : State) (a : List ℕ) (p : s .phase ≡ opening) (short : length (
 
 -- ---- a piece of the book
 
-module _ (s : State) (a : List ℕ) (p : s .phase ≡ opening) (whole : 2 ≤ length (s .field)) (sized : bookLength (s .field) ≤ 2118) where
+module _ (s : State) (a : List ℕ) (p : s .phase ≡ opening) (whole : 2 ≤ length (s .field)) (sized : bookLength (s .field) ≤ 8454) where
   module _ (short : length (s .book) < bookLength (s .field)) (fits : length (s .book) + length a ≤ bookLength (s .field)) where
     coming-book : (book : List ℕ) → length book < bookLength (s .field) → verdict (s .field) book ≡ coming
     coming-book book h = verdict-short-book (s .field) book whole sized h

@@ -10,9 +10,11 @@ use Rattle.spec_field.specs.Answer.{Answer, done, refused}
 unfoldable pub glyph : ℕ → ℕ
 glyph d = cond (ltb d 10) (48 + d) (87 + d)
 
--- SCOPE 6.5: a number below 100 in decimal, with no leading zero
+-- SCOPE 6.5: a number below 1000 in decimal, with no leading zero
 unfoldable pub decimalOf : ℕ → List ℕ
-decimalOf x = cond (ltb x 10) ((48 + x) ∷ []) ((48 + x / 10) ∷ (48 + x % 10) ∷ [])
+decimalOf x =
+    cond (ltb x 10) ((48 + x) ∷ [])
+    (cond (ltb x 100) ((48 + x / 10) ∷ (48 + x % 10) ∷ []) ((48 + x / 100) ∷ (48 + x / 10 % 10) ∷ (48 + x % 10) ∷ []))
 
 -- SCOPE 6.4: two hexadecimal digits a symbol, nothing between
 unfoldable pub hexOf : List ℕ → List ℕ

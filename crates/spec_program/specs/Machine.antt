@@ -5,7 +5,6 @@ use mathlib.Core.List.{List, [], _∷_, _++_}
 use Prim.Native.Nat.{ℕ, zero, suc}
 use lib.Dec.{ltb}
 use lib.ListN.{length}
-use Rattle.spec_book.specs.Layout.{width}
 use Rattle.spec_book.specs.Conditions.{refusal}
 use Rattle.spec_program.specs.Line.{refusalLine}
 use Rattle.spec_program.specs.Output.{pieceLine, wordSize, wordLine, mostWords, bookLength, openingText}
@@ -37,11 +36,11 @@ pub data Verdict : Type 0 where
   coming : Verdict
   judged : ℕ → Verdict
 
--- SCOPE 6.7, 6.8: a length above 2118 is refused by 1 with no byte of the book read; a book that has its length is judged by its own number
+-- SCOPE 6.7, 6.8: a length above 8454 is refused by 1 with no byte of the book read; a book that has its length is judged by its own number
 unfoldable pub verdict : List ℕ → List ℕ → Verdict
 verdict field book =
     cond (ltb (length field) 2) coming
-    (cond (ltb 2118 (bookLength field)) (judged 1) (cond (ltb (length book) (bookLength field)) coming (judged (refusal width book))))
+    (cond (ltb 8454 (bookLength field)) (judged 1) (cond (ltb (length book) (bookLength field)) coming (judged (refusal book))))
 
 -- SCOPE 6.9: the run goes on with an accepted book, and ends with any other
 abbrev pub verdictPhase : Verdict → Phase

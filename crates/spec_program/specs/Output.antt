@@ -6,7 +6,7 @@ use Prim.Native.Nat.{ℕ, zero, suc, _+_, _*_, _/_, _%_}
 use lib.Dec.{leb}
 use lib.ListN.{length, take, drop, getD}
 use Rattle.spec_field.specs.Answer.{answer}
-use Rattle.spec_book.specs.Layout.{width, bookOf}
+use Rattle.spec_book.specs.Layout.{bookOf}
 use Rattle.spec_book.specs.Conditions.{unless, refusal}
 use Rattle.spec_operations.specs.Decoding.{matrixSize, decodeRefusal, decodeBytes, values}
 use Rattle.spec_program.specs.Line.{lineOf, refusalLine}
@@ -21,7 +21,7 @@ pieceLine (suc size) = refusalLine 9
 module _ (bytes : List ℕ) where
   -- SCOPE 6.1: the bytes of a word
   abbrev pub wordSize : ℕ
-  wordSize = bookOf width bytes .n
+  wordSize = bookOf bytes .n
 
   -- SCOPE 6.2: the line of one word: what decode answers with outputs of the exact sizes, R 11 for a bad symbol (6.10)
   unfoldable pub wordLine : List ℕ → List ℕ
@@ -48,9 +48,9 @@ mostWords = 1000000
 abbrev pub bookLength : List ℕ → ℕ
 bookLength field = getD field 0 0 + 256 * getD field 1 0
 
--- SCOPE 6.8: 1 where the field or the book is short or the length above 2118 (6.7), else the book's own; `got` bytes of the field say `size`
+-- SCOPE 6.8: 1 where the field or the book is short or the length above 8454 (6.7), else the book's own; `got` bytes of the field say `size`
 unfoldable pub openingRefusal : ℕ → ℕ → List ℕ → ℕ
-openingRefusal got size book = unless (leb 2 got && leb size 2118 && leb size (length book)) 1 (refusal width book)
+openingRefusal got size book = unless (leb 2 got && leb size 8454 && leb size (length book)) 1 (refusal book)
 
 -- SCOPE 6.6: the line of a refused opening; an accepted one prints nothing
 abbrev pub openingText : ℕ → List ℕ

@@ -64,6 +64,14 @@ module _ {A : Type 0} (op : A → A → A) (e : A) where
     fold-head (suc n) f =
         ap (λ (x : A). op x (f (suc n))) (fold-head n f) ∙ assoc (f 0) (fold op e n (λ i. f (suc i))) (f (suc n))
 
+    -- a range in two parts
+    pub fold-parts : (m k : ℕ) (f : ℕ → A) → fold op e (m + k) f ≡ op (fold op e m f) (fold op e k (λ i. f (m + i)))
+    unfolding fold
+    fold-parts m zero f = ap (λ (n : ℕ). fold op e n f) (add-zero m) ∙ sym (unit (fold op e m f))
+    fold-parts m (suc k) f =
+        ap (λ (n : ℕ). fold op e n f) (add-suc m k)
+        ∙ ap (λ (x : A). op x (f (m + k))) (fold-parts m k f) ∙ assoc (fold op e m f) (fold op e k (λ i. f (m + i))) (f (m + k))
+
     -- a function of period n may be shifted
     rotate-one : (n : ℕ) (f : ℕ → A) → f n ≡ f 0 → fold op e n (λ i. f (suc i)) ≡ fold op e n f
     unfolding fold

@@ -25,33 +25,33 @@ module _ (field : List ℕ) where
   -- the length is known, and is not too large
   record Known : Type 0 where
     pub whole : 2 ≤ length field
-    pub sized : bookLength field ≤ 2118
+    pub sized : bookLength field ≤ 8454
     pub wanted-is : wantedOf field ≡ bookLength field
 
-  wanted-long : 2 ≤ length field → 2118 < bookLength field → wantedOf field ≡ 0
+  wanted-long : 2 ≤ length field → 8454 < bookLength field → wantedOf field ≡ 0
   unfolding wantedOf
-  wanted-long h l = rw (le-ltb (length field) 2 h, lt-ltb 2118 (bookLength field) l)
+  wanted-long h l = rw (le-ltb (length field) 2 h, lt-ltb 8454 (bookLength field) l)
 
-  wanted-known : 2 ≤ length field → bookLength field ≤ 2118 → wantedOf field ≡ bookLength field
+  wanted-known : 2 ≤ length field → bookLength field ≤ 8454 → wantedOf field ≡ bookLength field
   unfolding wantedOf
-  wanted-known h l = rw (le-ltb (length field) 2 h, le-ltb 2118 (bookLength field) l)
+  wanted-known h l = rw (le-ltb (length field) 2 h, le-ltb 8454 (bookLength field) l)
 
   some-wanted : 0 < wantedOf field → Known
-  some-wanted h = by-size (decLt (length field) 2) (decLt 2118 (bookLength field))
+  some-wanted h = by-size (decLt (length field) 2) (decLt 8454 (bookLength field))
     where
-      by-size : Dec (length field < 2) → Dec (2118 < bookLength field) → Known
+      by-size : Dec (length field < 2) → Dec (8454 < bookLength field) → Known
       by-size (yes l) d = absurd (omega (arith, short-wanted l))
       by-size (no l) (yes g) = absurd (omega (arith, wanted-long (omega arith) g))
       by-size (no l) (no g) = record { whole = omega arith; sized = omega arith; wanted-is = wanted-known (omega arith) (omega arith) }
 
   -- where the length is known and the codebook is still coming, more of it is read
   pub coming-short : (book : List ℕ) → 2 ≤ length field → verdict field book ≡ coming → length book < wantedOf field
-  coming-short book whole e = by-size (decLt 2118 (bookLength field)) (decLt (length book) (bookLength field))
+  coming-short book whole e = by-size (decLt 8454 (bookLength field)) (decLt (length book) (bookLength field))
     where
       never : {number : ℕ} → verdict field book ≡ judged number → ⊥
       never h = let z : _≡_ {A = ℕ} 0 1 = cc in omega arith
 
-      by-size : Dec (2118 < bookLength field) → Dec (length book < bookLength field) → length book < wantedOf field
+      by-size : Dec (8454 < bookLength field) → Dec (length book < bookLength field) → length book < wantedOf field
       by-size (yes l) d = absurd (never (verdict-too-long field book whole l))
       by-size (no l) (yes g) = omega (arith, wanted-known whole (omega arith))
       by-size (no l) (no g) = absurd (never (verdict-whole-book field book whole (omega arith) (omega arith)))

@@ -63,7 +63,7 @@ module _ (s : State) (t terms : List ℕ) (z : Sound s t terms) (p : s .phase �
         }
     resumed-in false e = tt
 
-    resumed-sound : length terms′ ≡ 2240 → Sound (resumedOf s a) t terms′
+    resumed-sound : length terms′ ≡ 8384 → Sound (resumedOf s a) t terms′
     resumed-sound size =
         record {
           sized =
@@ -80,7 +80,7 @@ module _ (s : State) (t terms : List ℕ) (z : Sound s t terms) (p : s .phase �
           in-phase = resumed-in (ltb (a .count) mostWords) refl;
         }
 
-    pub serves : {r : State} → r ≡ resumedOf s a → end + 5 * (s .held + length piece) ≤ length out₀ → length terms′ ≡ 2240
+    pub serves : {r : State} → r ≡ resumedOf s a → end + 6 * (s .held + length piece) ≤ length out₀ → length terms′ ≡ 8384
         → Steps s piece out₀ end r (a .end) out × Sound r t terms′
     serves is room size =
         let from = from-is end in (

@@ -72,8 +72,8 @@ module _ (bytes : List ℕ) (c : Params) (d : Describes bytes c) (a : Answers) (
     row-text field = steps-text-words (from field) pos (phase-is field) (none-begun field) few words (take size piece) (omega (arith, least .left)) row-size
 
     module _ {terms out₀ out : List ℕ} {end : ℕ} (printed : Printed out₀ (a .end) (linesOf bytes words (take size piece)) out end)
-        (end-le : end ≤ a .end + 5 * length (take size piece)) (terms-are : TermsRoom bytes c terms) where
-      ends : end ≤ a .end + 5 * (a .held + length piece)
+        (end-le : end ≤ a .end + 6 * length (take size piece)) (terms-are : TermsRoom bytes c terms) where
+      ends : end ≤ a .end + 6 * (a .held + length piece)
       ends = omega (arith, length-take-le size piece row-fits, row-fits)
 
       -- no more words are read
@@ -177,7 +177,7 @@ module _ (bytes : List ℕ) (c : Params) (d : Describes bytes c) (a : Answers) (
   -- ---- the bytes that join a begun word
 
   module _ (going : Going c a) {begun : List ℕ} {more : ℕ} (filled : Filled (a .begun) (a .held) (c .n) piece begun more) where
-    n-most : c .n ≤ 63
+    n-most : c .n ≤ 255
     n-most = omega (arith, d .n-is, n-high bytes (d .accepted))
 
     held-size : length (take (a .held) (a .begun)) ≡ a .held
@@ -219,7 +219,7 @@ module _ (bytes : List ℕ) (c : Params) (d : Describes bytes c) (a : Answers) (
 
     -- it is whole
     module _ (whole : c .n ≤ a .held + more) {out₀ mid : List ℕ} {end : ℕ} (line : Printed out₀ (a .end) (wordLine bytes (take (c .n) begun)) mid end)
-        (end-le : end ≤ a .end + (9 + 2 * c .n)) where
+        (end-le : end ≤ a .end + (10 + 2 * c .n)) where
       abbrev pub next : Answers
       next = record { count = a .count + 1; begun = begun; held = 0; end = end }
 
@@ -248,7 +248,7 @@ module _ (bytes : List ℕ) (c : Params) (d : Describes bytes c) (a : Answers) (
       word-text field =
           steps-text-word (from field) (take more piece) (phase-is field) (begun-lt field) (completes field) ∙ ap (wordLine bytes) (sym word-is)
 
-      ends-by : end ≤ a .end + 5 * (a .held + more)
+      ends-by : end ≤ a .end + 6 * (a .held + more)
       ends-by = omega (arith, exact, word-low bytes c d)
 
       pub next-going : Going c next

@@ -12,6 +12,7 @@ use Rattle.spec_program.specs.Machine.{verdict, verdictText, opened, steps, ste
 use Rattle.spec_program.proofs.Opening.{opening-line, refused-phase, opened-is}
 use Rattle.book.specs.declared.Params.{Params}
 use Rattle.stream_text.specs.Printed.{Printed}
+use Rattle.sizes.proofs.Lengths.{blocks-high}
 use Rattle.word_array.specs.Stored.{place}
 use Rattle.matrix_terms.specs.Terms.{unlisted}
 use Rattle.decode_rounds.specs.Rounds.{TermsRoom}
@@ -30,8 +31,8 @@ pub rest-is : (piece : List ℕ) (at : ℕ) → take (length piece - at) (drop a
 rest-is piece at = take-all (length piece - at) (drop at piece) (omega (arith, length-drop at piece))
 
 -- nothing is listed yet in a room whose number 0 is 0
-none-listed : (bytes : List ℕ) (c : Params) (terms : List ℕ) → length terms ≡ 2240 → place terms 0 ≡ 0 → TermsRoom bytes c terms
-none-listed bytes c terms size fresh = record { long = omega arith; kept = unlisted fresh }
+none-listed : (bytes : List ℕ) (c : Params) (terms : List ℕ) → length terms ≡ 8384 → place terms 0 ≡ 0 → TermsRoom bytes c terms
+none-listed bytes c terms size fresh = record { long = omega (arith, blocks-high (c .n)); kept = unlisted fresh }
 
 -- ---- `head` bytes of a piece join the field
 
@@ -55,7 +56,7 @@ module _ (s : State) (waiting : Waiting s) (sized : Sized s) {piece field : List
 
   -- ---- and then `body` bytes join the codebook
 
-  module _ (p : s .phase ≡ Opening) {book : List ℕ} {size body : ℕ} (size-is : size ≡ wantedOf field′) (size-le : size ≤ 2118)
+  module _ (p : s .phase ≡ Opening) {book : List ℕ} {size body : ℕ} (size-is : size ≡ wantedOf field′) (size-le : size ≤ 8454)
       (grown : Filled (s .book) (s .came) size (drop head piece) book body) where
     abbrev book′ : List ℕ
     book′ = take (s .came + body) book
@@ -158,7 +159,7 @@ module _ (s : State) (waiting : Waiting s) (sized : Sized s) {piece field : List
           held-le = sized .held-le;
         }
 
-    pub taken-sound : (told : Judged) {t terms : List ℕ} → Told field′ book′ told t → length t ≡ 8192 → length terms ≡ 2240 → place terms 0 ≡ 0
+    pub taken-sound : (told : Judged) {t terms : List ℕ} → Told field′ book′ told t → length t ≡ 8192 → length terms ≡ 8384 → place terms 0 ≡ 0
         → Sound (settledOf s′ told) t terms
     taken-sound Coming j t-size terms-size fresh =
         record {
@@ -192,7 +193,7 @@ module _ (s : State) (waiting : Waiting s) (sized : Sized s) {piece field : List
 
     -- the whole
     pub opens : {told : Judged} {t terms out₀ out : List ℕ} {end : ℕ} {r : State} → r ≡ settledOf s′ told → Told field′ book′ told t
-        → Printed out₀ 0 (toldText told) out end → end ≤ 5 → 5 ≤ length out₀ → length t ≡ 8192 → length terms ≡ 2240 → place terms 0 ≡ 0
+        → Printed out₀ 0 (toldText told) out end → end ≤ 5 → 5 ≤ length out₀ → length t ≡ 8192 → length terms ≡ 8384 → place terms 0 ≡ 0
         → Opens s piece out₀ (record { state = r; at = head + body; end = end }) t terms out
     opens {told} {t} {terms} {out₀} {out} {end} {r} is j printed low room t-size terms-size fresh =
         record {

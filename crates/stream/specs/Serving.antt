@@ -30,7 +30,7 @@ servingState field bytes a =
 
 -- less than a word is begun, and no more words are answered than are read
 pub record Going (c : Params) (a : Answers) : Type 0 where
-  pub begun-size : length (a .begun) ≡ 63
+  pub begun-size : length (a .begun) ≡ 255
   pub held-lt : a .held < c .n
   pub count-le : a .count ≤ mostWords
 
@@ -38,7 +38,7 @@ pub record Going (c : Params) (a : Answers) : Type 0 where
 pub record Served (bytes : List ℕ) (c : Params) (a : Answers) (piece out₀ : List ℕ) (r : Answers) (terms out : List ℕ) : Type 0 where
   pub state-is : (field : List ℕ) → servingState field bytes r ≡ steps (servingState field bytes a) piece
   pub text-is : (field : List ℕ) → Printed out₀ (a .end) (stepsText (servingState field bytes a) piece) out (r .end)
-  pub end-le : r .end ≤ a .end + 5 * (a .held + length piece)
+  pub end-le : r .end ≤ a .end + 6 * (a .held + length piece)
   pub going : Going c r
   pub terms-are : TermsRoom bytes c terms
 

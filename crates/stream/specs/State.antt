@@ -36,7 +36,7 @@ stateOf s = record { field = fieldCame s; book = bookCame s; count = s .count; b
 
 -- how many bytes of a codebook are read: none where the length field is short, or says more than a codebook may have
 unfoldable pub wantedOf : List ℕ → ℕ
-wantedOf field = cond (ltb (length field) 2) 0 (cond (ltb 2118 (bookLength field)) 0 (bookLength field))
+wantedOf field = cond (ltb (length field) 2) 0 (cond (ltb 8454 (bookLength field)) 0 (bookLength field))
 
 -- field or codebook are still coming, and no word is
 pub record Waiting (s : State) : Type 0 where
@@ -61,15 +61,15 @@ InPhase Ended s t terms = Unit {0}
 -- the sizes of the arrays, and how much of each counts
 pub record Sized (s : State) : Type 0 where
   pub field-size : length (s .field) ≡ 2
-  pub book-size : length (s .book) ≡ 2118
-  pub begun-size : length (s .begun) ≡ 63
+  pub book-size : length (s .book) ≡ 8454
+  pub begun-size : length (s .begun) ≡ 255
   pub got-le : s .got ≤ 2
-  pub came-le : s .came ≤ 2118
-  pub held-le : s .held ≤ 63
+  pub came-le : s .came ≤ 8454
+  pub held-le : s .held ≤ 255
 
 -- what a state between two pieces satisfies, with the rooms for the table and the terms
 pub record Sound (s : State) (t terms : List ℕ) : Type 0 where
   pub sized : Sized s
   pub table-size : length t ≡ 8192
-  pub terms-size : length terms ≡ 2240
+  pub terms-size : length terms ≡ 8384
   pub in-phase : InPhase (s .phase) s t terms

@@ -11,9 +11,9 @@ use Rattle.stream.specs.State.{stateOf}
 
 -- rooms for an answer, for a matrix and for the text of a piece: a line has at most 5 bytes for each symbol, and one word was begun before it
 pub record Rooms (piece answer entries out : List ℕ) : Type 0 where
-  pub answer-size : length answer ≡ 63
-  pub entries-size : length entries ≡ 4032
-  pub out-size : 5 * length piece + 320 ≤ length out
+  pub answer-size : length answer ≡ 255
+  pub entries-size : length entries ≡ 4080
+  pub out-size : 6 * length piece + 1535 ≤ length out
 
 -- from the state s the bytes `piece` make the state r, and print what stands in `out` from `at` to `end`
 pub record Steps (s : State) (piece out₀ : List ℕ) (at : ℕ) (r : State) (end : ℕ) (out : List ℕ) : Type 0 where

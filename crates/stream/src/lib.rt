@@ -54,14 +54,14 @@ pub struct Stepped {
 
 // Room for the longest codebook.
 fn book_room() -> [u8; BOOK]
-    ensures { λ r. ⌜ 2118 ≡ length r ⌝ }
+    ensures { λ r. ⌜ 8454 ≡ length r ⌝ }
 {
     [0; BOOK]
 }
 
 // No byte came.
 pub fn start() -> State
-    ensures { λ r. ⌜ (stateOf r ≡ machine.start) × ((t terms : List ℕ) → length t ≡ 8192 → length terms ≡ 2240 → Sound r t terms) ⌝ }
+    ensures { λ r. ⌜ (stateOf r ≡ machine.start) × ((t terms : List ℕ) → length t ≡ 8192 → length terms ≡ 8384 → Sound r t terms) ⌝ }
 {
     let field = [0; FIELD];
     let book = book_room();

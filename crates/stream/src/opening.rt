@@ -45,7 +45,7 @@ fn book_length(field: [u8; FIELD]) -> usize
 // How many bytes of a codebook are read: none where its length is not known yet, or is too large.
 fn wanted(field: [u8; FIELD], got: usize) -> usize
     requires { ⌜ (length field ≡ 2) × (got ≤ 2) ⌝ }
-    ensures { λ r. ⌜ (r ≡ wantedOf (take got field)) × (r ≤ 2118) ⌝ }
+    ensures { λ r. ⌜ (r ≡ wantedOf (take got field)) × (r ≤ 8454) ⌝ }
 {
     if got < FIELD {
         return 0;

@@ -5,37 +5,37 @@ use sizes::MATRIX;
 use sizes::WIDTH;
 use sizes::Word;
 
-// The bytes of a piece: 400 of the longest words.
-pub const PIECE: usize = 400 * sizes::WIDTH;
-// The bytes of its text: at most 5 for each symbol of a line, a begun word's line, and a refusal.
-pub const TEXT: usize = 5 * PIECE + 5 * sizes::WIDTH + 5;
+// The bytes of a piece: 100 of the longest words.
+pub const PIECE: usize = 100 * sizes::WIDTH;
+// The bytes of its text: at most 6 for each symbol of a line, a begun word's line, and a refusal.
+pub const TEXT: usize = 6 * PIECE + 6 * sizes::WIDTH + 5;
 // Enough turns for all the input that matters.
 pub const TURNS: usize = crate::INPUT / PIECE + 1;
 
 // The longest answer.
 pub fn answer() -> Word
-    ensures { λ r. ⌜ 63 ≡ length r ⌝ }
+    ensures { λ r. ⌜ 255 ≡ length r ⌝ }
 {
     [0; WIDTH]
 }
 
 // The largest matrix.
 pub fn matrix() -> [u16; MATRIX]
-    ensures { λ r. ⌜ 4032 ≡ length r ⌝ }
+    ensures { λ r. ⌜ 4080 ≡ length r ⌝ }
 {
     [0; MATRIX]
 }
 
 // A piece.
 pub fn piece() -> [u8; PIECE]
-    ensures { λ r. ⌜ 25200 ≡ length r ⌝ }
+    ensures { λ r. ⌜ 25500 ≡ length r ⌝ }
 {
     [0; PIECE]
 }
 
 // Its text.
 pub fn text() -> [u8; TEXT]
-    ensures { λ r. ⌜ 126320 ≡ length r ⌝ }
+    ensures { λ r. ⌜ 154535 ≡ length r ⌝ }
 {
     [0; TEXT]
 }

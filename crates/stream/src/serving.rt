@@ -36,7 +36,7 @@ fn put_row(
     out: &mut [u8],
 ) -> Answers
     requires { ⌜ Ready (now book) c (now t) (now terms) (now answer) (now entries) × Going c a × (a .held ≡ 0) × (a .count < mostWords)
-        × (a .end + 5 * length (now piece) ≤ length (now out)) ⌝ }
+        × (a .end + 6 * length (now piece) ≤ length (now out)) ⌝ }
     ensures { λ r. ⌜ Served (now (book .entry)) c a (now (piece .entry)) (now (out .entry)) r (now (terms .exit)) (now (out .exit)) ⌝ }
 {
     let n = c.n;
@@ -86,7 +86,7 @@ pub fn answer(
     out: &mut [u8],
 ) -> Answers
     requires { ⌜ Ready (now book) c (now t) (now terms) (now answer) (now entries) × Going c a × (a .count < mostWords)
-        × (a .end + 5 * (a .held + length (now piece)) ≤ length (now out)) ⌝ }
+        × (a .end + 6 * (a .held + length (now piece)) ≤ length (now out)) ⌝ }
     ensures { λ r. ⌜ Served (now (book .entry)) c a (now (piece .entry)) (now (out .entry)) r (now (terms .exit)) (now (out .exit)) ⌝ }
 {
     let n = c.n;
@@ -166,8 +166,8 @@ pub fn serve(
     out: &mut [u8],
     end: usize,
 ) -> Stepped
-    requires { ⌜ Sound s (now t) (now terms) × (s .phase ≡ Answering) × (length (now answers) ≡ 63) × (length (now entries) ≡ 4032)
-        × (end + 5 * (s .held + length (now piece)) ≤ length (now out)) ⌝ }
+    requires { ⌜ Sound s (now t) (now terms) × (s .phase ≡ Answering) × (length (now answers) ≡ 255) × (length (now entries) ≡ 4080)
+        × (end + 6 * (s .held + length (now piece)) ≤ length (now out)) ⌝ }
     ensures { λ r. ⌜ Steps s (now (piece .entry)) (now (out .entry)) end (r .state) (r .end) (now (out .exit))
         × Sound (r .state) (now (t .entry)) (now (terms .exit)) ⌝ }
 {

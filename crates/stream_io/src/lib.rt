@@ -16,7 +16,7 @@ fn pass(
     input: &mut [u8],
     output: &mut [u8],
 )
-    requires { ⌜ (length (now t) ≡ 8192) × (length (now terms) ≡ 2240) × Rooms (now input) (now answer) (now entries) (now output) ⌝ }
+    requires { ⌜ (length (now t) ≡ 8192) × (length (now terms) ≡ 8384) × Rooms (now input) (now answer) (now entries) (now output) ⌝ }
 {
     let mut s = stream::start();
     let mut sent = true;
@@ -38,7 +38,7 @@ fn pass(
 // Answers standard input: SCOPE 6.
 pub fn run() {
     let mut t = word_table::table_room();
-    let mut terms = matrix_terms::room();
+    let mut terms = matrix_terms::long_room();
     let mut answer = stream::rooms::answer();
     let mut entries = stream::rooms::matrix();
     let mut input = stream::rooms::piece();

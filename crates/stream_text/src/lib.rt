@@ -24,7 +24,7 @@ fn digit(d: u8) -> u8
 }
 
 // A number below 100 in decimal.
-fn put_decimal(out: &mut [u8], at: usize, x: u8) -> usize
+fn put_small(out: &mut [u8], at: usize, x: u8) -> usize
     requires { ⌜ (x < 100) × (at + 2 ≤ length (now out)) ⌝ }
     ensures { λ r. ⌜ Printed (now (out .entry)) at (decimalOf x) (now (out .exit)) r ⌝ }
     ensures { λ r. ⌜ r ≤ at + 2 ⌝ }
@@ -34,6 +34,20 @@ fn put_decimal(out: &mut [u8], at: usize, x: u8) -> usize
     }
     let next = put(out, at, 48 + x / 10);
     put(out, next, 48 + x % 10)
+}
+
+// A number in decimal.
+fn put_decimal(out: &mut [u8], at: usize, x: u8) -> usize
+    requires { ⌜ at + 3 ≤ length (now out) ⌝ }
+    ensures { λ r. ⌜ Printed (now (out .entry)) at (decimalOf x) (now (out .exit)) r ⌝ }
+    ensures { λ r. ⌜ r ≤ at + 3 ⌝ }
+{
+    if x < 100 {
+        return put_small(out, at, x);
+    }
+    let first = put(out, at, 48 + x / 100);
+    let second = put(out, first, 48 + x / 10 % 10);
+    put(out, second, 48 + x % 10)
 }
 
 // Two hexadecimal digits for each byte of `bytes`.
@@ -53,7 +67,7 @@ fn put_hex(out: &mut [u8], at: usize, bytes: &[u8]) -> usize
     next
 }
 
-// The line of an answer: at most 9 bytes and two for each symbol.
+// The line of an answer: at most 10 bytes and two for each symbol.
 pub fn put_answer(
     out: &mut [u8],
     at: usize,
@@ -62,13 +76,13 @@ pub fn put_answer(
     changed: u8,
     answer: &[u8],
 ) -> usize
-    requires { ⌜ (rounds < 100) × (changed < 100) × (at + (9 + 2 * length (now answer)) ≤ length (now out)) ⌝ }
+    requires { ⌜ (rounds < 100) × (at + (10 + 2 * length (now answer)) ≤ length (now out)) ⌝ }
     ensures { λ r. ⌜ Printed (now (out .entry)) at (answerLine letter rounds changed (now (answer .entry))) (now (out .exit)) r ⌝ }
-    ensures { λ r. ⌜ r ≤ at + (9 + 2 * length (now (answer .entry))) ⌝ }
+    ensures { λ r. ⌜ r ≤ at + (10 + 2 * length (now (answer .entry))) ⌝ }
 {
     let a = put(out, at, letter);
     let b = put(out, a, b' ');
-    let c = put_decimal(out, b, rounds);
+    let c = put_small(out, b, rounds);
     let d = put(out, c, b' ');
     let e = put_decimal(out, d, changed);
     let f = put(out, e, b' ');
@@ -84,6 +98,6 @@ pub fn put_refusal(out: &mut [u8], at: usize, number: u8) -> usize
 {
     let a = put(out, at, b'R');
     let b = put(out, a, b' ');
-    let c = put_decimal(out, b, number);
+    let c = put_small(out, b, number);
     put(out, c, b'\n')
 }

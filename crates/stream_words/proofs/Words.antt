@@ -1,22 +1,19 @@
 -- The line of a word, from what decode answers and writes, and the sizes of the numbers in it.
 -- Assumes nothing.
 use mathlib.Core.Path.{_≡_, sym, ap, ap₂, _∙_}
-use mathlib.Core.Bool.{not, _&&_}
+use mathlib.Core.Bool.{_&&_}
 use mathlib.Core.List.{List}
 use Prim.Native.Nat.{ℕ, zero, suc, _≤_, _<_}
-use native.Mathlib.Nat.{le-trans, le-of-eq}
+use native.Mathlib.Nat.{le-trans}
 use native.Mathlib.Omega.{arith}
 use lib.Dec.{eqb, leb→le}
 use lib.ListN.{length}
 use Rattle.spec_range.proofs.Tests.{and-left, and-right}
-use Rattle.spec_range.proofs.Count.{count-le}
 use Rattle.spec_field.specs.Answer.{answer, orElse, left}
-use Rattle.spec_word.specs.Word.{distance}
-use Rattle.spec_book.specs.Layout.{width, fieldOf, bookOf}
+use Rattle.spec_book.specs.Layout.{fieldOf, bookOf}
 use Rattle.spec_book.specs.Conditions.{limitsOk, refusal}
 use Rattle.spec_book.proofs.Sound.{sound}
 use Rattle.book.specs.declared.Params.{Params}
-use Rattle.spec_book.proofs.Known.{n-high}
 use Rattle.spec_decoding.specs.Matrix.{matrix}
 use Rattle.spec_decoding.specs.Decode.{Result}
 use Rattle.spec_decoding.proofs.Matrix.{matrix-length}
@@ -37,34 +34,26 @@ line-of : (k : ℕ) (x : Result) (word₀ word : List ℕ) (r : Decoded) → sai
 line-of zero x word₀ word r s b = ap₂ lineOf (sym s) (sym b)
 line-of (suc k) x word₀ word r s b = ap (λ a. lineOf a word) (sym s)
 
--- the values of an answer, and the number of a refusal, are the definition's
-same-values : (k : ℕ) (x : Result) (kind : Kind) {rounds changed : ℕ} → said (Answered kind rounds changed) ≡ answer k (values x)
-    → (rounds ≡ x .rounds) × (changed ≡ x .changed)
-same-values zero x kind e = (cc, cc)
-same-values (suc k) x kind e = let z : _≡_ {A = ℕ} 0 1 = cc in absurd (omega arith)
+-- the rounds of an answer, and the number of a refusal, are the definition's
+same-rounds : (k : ℕ) (x : Result) (kind : Kind) {rounds changed : ℕ} → said (Answered kind rounds changed) ≡ answer k (values x) → rounds ≡ x .rounds
+same-rounds zero x kind e = cc
+same-rounds (suc k) x kind e = let z : _≡_ {A = ℕ} 0 1 = cc in absurd (omega arith)
 
 same-number : (k : ℕ) (x : Result) {n : ℕ} → said (Refused n) ≡ answer k (values x) → n ≡ k
 same-number zero x e = let z : _≡_ {A = ℕ} 0 1 = cc in absurd (omega arith)
 same-number (suc k) x e = cc
 
-distance-le : (n : ℕ) (w v : ℕ → ℕ) → distance n w v ≤ n
-unfolding distance
-distance-le n w v = count-le n (λ j. not (eqb (w j) (v j)))
-
-module _ (bytes : List ℕ) (accepted : refusal width bytes ≡ 0) (received : List ℕ) where
-  result-sound : O.Sound (fieldOf bytes) (bookOf width bytes) received (bookOf width bytes .most-rounds) (decodeBytes bytes received)
-  result-sound = O.decode-sound (fieldOf bytes) (bookOf width bytes) (matrix (fieldOf bytes) (bookOf width bytes)) (matrix-length (fieldOf bytes)
-      (bookOf width bytes) _) received
+module _ (bytes : List ℕ) (accepted : refusal bytes ≡ 0) (received : List ℕ) where
+  result-sound : O.Sound (fieldOf bytes) (bookOf bytes) received (bookOf bytes .most-rounds) (decodeBytes bytes received)
+  result-sound = O.decode-sound (fieldOf bytes) (bookOf bytes) (matrix (fieldOf bytes) (bookOf bytes)) (matrix-length (fieldOf bytes)
+      (bookOf bytes) _) received
 
   -- "I, most rounds, 1 to 63"
   rounds-high : decodeBytes bytes received .rounds ≤ 63
   unfolding limitsOk
   rounds-high =
-      let t = sound width bytes accepted .limits-ok in
-      le-trans (result-sound .rounds-le) (leb→le (bookOf width bytes .most-rounds) 63 (search (and-left, and-right) depth 5))
-
-  changed-high : decodeBytes bytes received .changed ≤ 63
-  changed-high = le-trans (le-of-eq (result-sound .changed-is)) (le-trans (distance-le (wordSize bytes) _ _) (n-high bytes accepted))
+      let t = sound bytes accepted .limits-ok in
+      le-trans (result-sound .rounds-le) (leb→le (bookOf bytes .most-rounds) 63 (search (and-left, and-right) depth 5))
 
 module _ (bytes : List ℕ) (c : Params) {t terms word₀ entries₀ : List ℕ} (ready : Ready bytes c t terms word₀ entries₀) (received : List ℕ) where
   abbrev x : Result
@@ -93,14 +82,9 @@ module _ (bytes : List ℕ) (c : Params) {t terms word₀ entries₀ : List ℕ}
     pub line-answered : {letter : ℕ} → letter ≡ letterOf kind → wordLine bytes received ≡ answerLine letter rounds changed word
     line-answered e = word-line r h ∙ ap (λ (d : Decoded). lineOf (said d) word) is ∙ ap (λ (l : ℕ). answerLine l rounds changed word) (sym e)
 
-    same : (rounds ≡ x .rounds) × (changed ≡ x .changed)
-    same = same-values number x kind (sym (ap said is) ∙ h .says)
-
     pub rounds-small : rounds < 100
-    rounds-small = omega (arith, same .0, rounds-high bytes (ready .describes .accepted) received)
-
-    pub changed-small : changed < 100
-    changed-small = omega (arith, same .1, changed-high bytes (ready .describes .accepted) received)
+    rounds-small =
+        omega (arith, same-rounds number x kind (sym (ap said is) ∙ h .says), rounds-high bytes (ready .describes .accepted) received)
 
   -- a refusal
   module _ {r : Decoded} {n : ℕ} {word entries : List ℕ} (is : r ≡ Refused n) (h : Decodes number x word₀ entries₀ (said r) word entries) where

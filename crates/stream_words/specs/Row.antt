@@ -15,5 +15,5 @@ pub record Row (bytes : List ℕ) (c : Params) (t terms₀ words out₀ : List �
   pub whole : i % c .n ≡ 0
   pub ready : Ready bytes c t terms answer entries
   pub terms-kept : length terms ≡ length terms₀
-  pub room : next ≤ at + 5 * i
+  pub room : next ≤ at + 6 * i
   pub lines : Printed out₀ at (textOf bytes (take i words)) out next

@@ -21,9 +21,9 @@ pub fn put_word(
     out: &mut [u8],
     at: usize,
 ) -> usize
-    requires { ⌜ Ready (now book) c (now t) (now terms) (now answer) (now entries) × (at + (9 + 2 * c .n) ≤ length (now out)) ⌝ }
+    requires { ⌜ Ready (now book) c (now t) (now terms) (now answer) (now entries) × (at + (10 + 2 * c .n) ≤ length (now out)) ⌝ }
     ensures { λ r. ⌜ Printed (now (out .entry)) at (wordLine (now (book .entry)) (now (word .entry))) (now (out .exit)) r
-        × (r ≤ at + (9 + 2 * c .n)) × TermsRoom (now (book .entry)) c (now (terms .exit)) ⌝ }
+        × (r ≤ at + (10 + 2 * c .n)) × TermsRoom (now (book .entry)) c (now (terms .exit)) ⌝ }
 {
     let said = decode::decode_word(book, c, t, terms, word, answer, entries);
     match said {
@@ -34,7 +34,7 @@ pub fn put_word(
     }
 }
 
-// The lines of a row of `count` whole words, from index `at` on. A line has at most 5 bytes for each symbol.
+// The lines of a row of `count` whole words, from index `at` on. A line has at most 6 bytes for each symbol.
 pub fn put_words(
     book: &[u8],
     c: Params,
@@ -48,9 +48,9 @@ pub fn put_words(
     at: usize,
 ) -> usize
     requires { ⌜ Ready (now book) c (now t) (now terms) (now answer) (now entries) × (length (now words) ≡ count * c .n)
-        × (at + 5 * length (now words) ≤ length (now out)) ⌝ }
+        × (at + 6 * length (now words) ≤ length (now out)) ⌝ }
     ensures { λ r. ⌜ Printed (now (out .entry)) at (linesOf (now (book .entry)) count (now (words .entry))) (now (out .exit)) r
-        × (r ≤ at + 5 * length (now (words .entry))) × TermsRoom (now (book .entry)) c (now (terms .exit)) ⌝ }
+        × (r ≤ at + 6 * length (now (words .entry))) × TermsRoom (now (book .entry)) c (now (terms .exit)) ⌝ }
 {
     let n = c.n;
     let mut next = at;

@@ -14,7 +14,7 @@ use Rattle.spec_range.proofs.Table.{all-of}
 use Rattle.spec_field.specs.Answer.{Answer, answer, left}
 use Rattle.spec_word.specs.Word.{IsWord, at}
 use Rattle.spec_word.proofs.Place.{SymbolList, at-lt}
-use Rattle.spec_book.specs.Layout.{width, fieldOf, bookOf}
+use Rattle.spec_book.specs.Layout.{fieldOf, bookOf}
 use Rattle.spec_book.specs.Conditions.{refusal, inputOk, inputRefusal}
 use Rattle.spec_book.proofs.Known.{n-pos}
 use Rattle.spec_decoding.specs.Decode.{Result}
@@ -25,16 +25,16 @@ use Rattle.spec_operations.specs.Twice.{Given, Shows, Related}
 
 -- ---- a call that is not refused
 
-module _ (bytes : List ℕ) (e : refusal width bytes ≡ 0) where
-  symbol-list : {w : List ℕ} → IsWord (fieldOf bytes) (bookOf width bytes .n) w → SymbolList (fieldOf bytes) (bookOf width bytes .n) w
+module _ (bytes : List ℕ) (e : refusal bytes ≡ 0) where
+  symbol-list : {w : List ℕ} → IsWord (fieldOf bytes) (bookOf bytes .n) w → SymbolList (fieldOf bytes) (bookOf bytes .n) w
   unfolding at
-  symbol-list h = record { exact = h .size; symbols = λ j. h .symbol (j % bookOf width bytes .n) (mod-lt j (n-pos bytes e)) }
+  symbol-list h = record { exact = h .size; symbols = λ j. h .symbol (j % bookOf bytes .n) (mod-lt j (n-pos bytes e)) }
 
-  not-refused : (r : List ℕ) (room entries : ℕ) → length r ≡ bookOf width bytes .n → ((j : ℕ) → j < bookOf width bytes .n → getD r j 0 < fieldOf bytes .q)
-      → room ≡ bookOf width bytes .n → entries ≡ fieldOf bytes .q * bookOf width bytes .n → decodeRefusal bytes r room entries ≡ 0
+  not-refused : (r : List ℕ) (room entries : ℕ) → length r ≡ bookOf bytes .n → ((j : ℕ) → j < bookOf bytes .n → getD r j 0 < fieldOf bytes .q)
+      → room ≡ bookOf bytes .n → entries ≡ fieldOf bytes .q * bookOf bytes .n → decodeRefusal bytes r room entries ≡ 0
   unfolding decodeRefusal decodeInputRefusal inputRefusal inputOk
   not-refused r room entries size symbol hr he =
-      let n = bookOf width bytes .n in
+      let n = bookOf bytes .n in
       let symbols : inputOk (fieldOf bytes .q) r ≡ true =
       test-true (inputOk (fieldOf bytes .q) r)
       (all-of (length r) (λ j. ltb (getD r j 0) (fieldOf bytes .q)) (λ j l. lt→ltb (getD r j 0) (fieldOf bytes .q) (symbol j (subst (λ (k : ℕ). j < k) size l)))) in
@@ -65,15 +65,15 @@ related bytes {r} {r′} room size room′ size′ first second t c v g =
     x′ : Result
     x′ = decodeBytes bytes r′
 
-    moved : Moved (fieldOf bytes) (bookOf width bytes) t c v x x′
+    moved : Moved (fieldOf bytes) (bookOf bytes) t c v x x′
     moved =
         rw (g .moved)
-        (demand-3 width (omega arith) bytes (g .accepted) t c (g .nonzero) (g .symbol) v (symbol-list bytes (g .accepted) (g .added)) (g .code) r
+        (demand-3 bytes (g .accepted) t c (g .nonzero) (g .symbol) v (symbol-list bytes (g .accepted) (g .added)) (g .code) r
         (symbol-list bytes (g .accepted) (g .word)))
 
-    second-word : SymbolList (fieldOf bytes) (bookOf width bytes .n) r′
+    second-word : SymbolList (fieldOf bytes) (bookOf bytes .n) r′
     second-word =
-        rw (g .moved) (moved-word width (omega arith) bytes (g .accepted) t c (g .nonzero) (g .symbol) v (symbol-list bytes (g .accepted) (g .added)) (g .code) r)
+        rw (g .moved) (moved-word bytes (g .accepted) t c (g .nonzero) (g .symbol) v (symbol-list bytes (g .accepted) (g .added)) (g .code) r)
 
     z : decodeRefusal bytes r room size ≡ 0
     z = not-refused bytes (g .accepted) r room size (g .word .size) (g .word .symbol) (g .answer-size) (g .entries-size)
@@ -81,4 +81,4 @@ related bytes {r} {r′} room size room′ size′ first second t c v g =
     z′ : decodeRefusal bytes r′ room′ size′ ≡ 0
     z′ =
         not-refused bytes (g .accepted) r′ room′ size′ (second-word .exact)
-        (λ j l. subst (λ (s : ℕ). s < fieldOf bytes .q) (at-lt (bookOf width bytes .n) r′ l) (second-word .symbols j)) (g .answer-size′) (g .entries-size′)
+        (λ j l. subst (λ (s : ℕ). s < fieldOf bytes .q) (at-lt (bookOf bytes .n) r′ l) (second-word .symbols j)) (g .answer-size′) (g .entries-size′)

@@ -12,8 +12,8 @@ use sizes::Word;
 
 // The n bytes of a slice that start at `start`, as a word.
 pub fn load(s: &[u8], start: usize, n: usize) -> Word
-    requires { ⌜ (n ≤ 63) × (start + n ≤ length (now s)) ⌝ }
-    ensures { λ r. ⌜ r ≡ padded 63 n (λ j. place (now (s .entry)) (start + j)) ⌝ }
+    requires { ⌜ (n ≤ 255) × (start + n ≤ length (now s)) ⌝ }
+    ensures { λ r. ⌜ r ≡ padded 255 n (λ j. place (now (s .entry)) (start + j)) ⌝ }
 {
     let mut w = [0u8; WIDTH];
     let mut j = 0;
@@ -38,9 +38,9 @@ pub fn store(w: &[u8], out: &mut [u8])
 }
 
 // The sum of two words.
-pub fn add(n: usize, a: Word, b: Word) -> Word
-    requires { ⌜ n ≤ 63 ⌝ }
-    ensures { λ r. ⌜ r ≡ padded 63 n (λ j. bitXor (place a j) (place b j)) ⌝ }
+pub fn add(n: usize, a: &[u8], b: &[u8]) -> Word
+    requires { ⌜ (n ≤ 255) × (n ≤ length (now a)) × (n ≤ length (now b)) ⌝ }
+    ensures { λ r. ⌜ r ≡ padded 255 n (λ j. bitXor (place (now (a .entry)) j) (place (now (b .entry)) j)) ⌝ }
 {
     let mut w = [0u8; WIDTH];
     let mut j = 0;
@@ -53,7 +53,7 @@ pub fn add(n: usize, a: Word, b: Word) -> Word
 
 // Whether the places below n are all zero: those that are not are counted, with no branch.
 pub fn is_zero(n: usize, w: &[u8]) -> bool
-    requires { ⌜ (n ≤ 128) × (n ≤ length (now w)) ⌝ }
+    requires { ⌜ (n ≤ 255) × (n ≤ length (now w)) ⌝ }
     ensures { λ r. ⌜ r ≡ allZero n (now (w .entry)) ⌝ }
 {
     let mut found: u8 = 0;
@@ -66,9 +66,9 @@ pub fn is_zero(n: usize, w: &[u8]) -> bool
 }
 
 // The count of places where two words differ, in a byte, which is wide enough and makes the widest vector steps.
-pub fn distance(n: usize, a: Word, b: Word) -> usize
-    requires { ⌜ n ≤ 63 ⌝ }
-    ensures { λ r. ⌜ (r ≡ distance n (place a) (place b)) × (r ≤ n) ⌝ }
+pub fn distance(n: usize, a: &[u8], b: &[u8]) -> usize
+    requires { ⌜ (n ≤ 255) × (n ≤ length (now a)) × (n ≤ length (now b)) ⌝ }
+    ensures { λ r. ⌜ (r ≡ distance n (place (now (a .entry))) (place (now (b .entry)))) × (r ≤ n) ⌝ }
 {
     let mut count: u8 = 0;
     let mut j = 0;

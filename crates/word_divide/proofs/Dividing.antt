@@ -6,18 +6,16 @@ use mathlib.Core.Bool.{Bool, true, false, cond, _&&_, _||_}
 use mathlib.Core.Logic.{_≢_, ⊎-elim}
 use mathlib.Core.List.{List}
 use Prim.Native.Nat.{ℕ, zero, suc, pred, _+_, _-_, _*_, _^_, _≤_, _<_, zero-le}
-use native.Mathlib.Nat.{not-suc-le-zero, le-refl, le-trans, lt-irrefl, le-of-suc-le-suc, eq-or-lt-of-le}
+use native.Mathlib.Nat.{not-suc-le-zero, le-refl, lt-irrefl, le-of-suc-le-suc, eq-or-lt-of-le}
 use native.Mathlib.Numerals.{add-one}
 use native.Mathlib.Decide.{decLt, ℕ-discrete}
 use native.Mathlib.Omega.{arith}
 use borrow.Author.Tests.{eq-eqb, ne-eqb}
 use lib.Bits.{bitXor}
 use lib.Dec.{eqb}
-use lib.ListN.{length, set, replicate, length-set, length-replicate}
+use lib.ListN.{length, set, length-set}
 use lib.Seq.{getD-set-same, getD-set-other}
-use Rattle.spec_range.specs.Table.{padded}
 use Rattle.spec_range.proofs.Fold.{fold-cong}
-use Rattle.spec_range.proofs.Loop.{held-padded, padded-length, zero-at}
 use Rattle.spec_field.specs.Field.{FieldOps, FieldLaws}
 use Rattle.spec_field.specs.Symbols.{gf}
 use Rattle.spec_field.specs.Symbols as symbols
@@ -27,31 +25,34 @@ use Rattle.spec_word.specs.Division.{before, allZero, reduce, remainder, divide
 use Rattle.spec_word.specs.CyclicCode.{unity}
 use Rattle.spec_word.proofs.Division.{remainderAt, remainder-at, remainder-cong}
 use Rattle.spec_word.proofs.Quotient.{prefix-below, quotientAt, quotient-at, quotient-cong, times, times-extend, division, quotient-above}
+use Rattle.sizes.specs.Blocks.{span, stride}
+use Rattle.sizes.proofs.Lengths.{blocks-fit}
 use Rattle.word_array.specs.Stored.{place, Sizes, Stored}
-use Rattle.word_array.proofs.Filled.{read-padded}
 use Rattle.word_table.specs.Multiples.{entry, wordOf, Multiples}
+use Rattle.word_table.specs.Window.{Window}
+use Rattle.word_table.proofs.Window.{window-at}
 use Rattle.word_table.proofs.Rows.{rows-apart}
 use Rattle.word_divide.specs.Window.{Dividend, AddedAt, Remains, DividedBy}
 
--- ---- what the division asks, of an array that holds a word
+-- ---- what the division asks, of a word that starts a list
 
-module _ {p size k : ℕ} {w : ℕ → ℕ} {v : List ℕ} (e : v ≡ padded size k w) (l : k ≤ size) where
-  pub padded-stored : ((j : ℕ) → j < k → w j < 2 ^ p) → Stored p k v
-  padded-stored h = record { symbol = λ j b. subst (λ (x : ℕ). x < 2 ^ p) (sym (read-padded w e l b)) (h j b) }
+pub stored-same : {p k : ℕ} {v : List ℕ} {w : ℕ → ℕ} → ((j : ℕ) → j < k → place v j ≡ w j) → ((j : ℕ) → j < k → w j < 2 ^ p) → Stored p k v
+stored-same {p} same h = record { symbol = λ j b. subst (λ (x : ℕ). x < 2 ^ p) (sym (same j b)) (h j b) }
 
-pub dividend : {stride span p n d k : ℕ} {t v : List ℕ} {w : ℕ → ℕ} → Sizes p n → 1 ≤ d → d < n → d ≤ k → k ≤ span → span ≤ stride
-    → v ≡ padded stride k w → ((j : ℕ) → j < k → w j < 2 ^ p) → Multiples stride p n t → Dividend stride span p n d k t v
-dividend {w = w} sizes pos high low fits wide e symbol multiples =
+pub dividend : {p n d k : ℕ} {t v₀ v : List ℕ} {w : ℕ → ℕ} → Sizes p n → 1 ≤ d → d < n → d ≤ k → k ≤ n + 1 → Multiples (stride n) p n t
+    → n + span n ≤ length v₀ → Window 0 k w v₀ v → ((j : ℕ) → j < k → w j < 2 ^ p) → Dividend (stride n) (span n) p n d k t v
+dividend {n = n} sizes pos high low fits multiples room e symbol =
     record {
       sizes = sizes;
       degree-pos = pos;
       degree-lt = high;
       k-low = low;
       k-high = fits;
-      span-high = wide;
-      symbols = padded-stored e (le-trans fits wide) symbol;
+      n-fits = blocks-fit (sizes .n-high);
+      span-high = omega arith;
+      symbols = stored-same (window-at e) symbol;
       multiples = multiples;
-      long = ap length e ∙ padded-length _ _ _;
+      long = subst (λ (m : ℕ). n + span n ≤ m) (sym (e .long)) room;
     }
 
 -- ---- a row added from place i on
@@ -78,6 +79,23 @@ added-more {t} {from} {i} {j} {v₀} {v} l h =
 
     here : place (set v (i + j) x) (i + j) ≡ bitXor (place v₀ (i + j)) (place t (from + j))
     here = getD-set-same v (i + j) x 0 l ∙ ap (λ (y : ℕ). bitXor y (place t (from + j))) (h .high (i + j) (le-refl (i + j)))
+
+-- a part added, and one from its end on
+pub added-join : {t : List ℕ} {from from′ i i′ a b c : ℕ} {v₀ v v′ : List ℕ} → from′ ≡ from + a → i′ ≡ i + a → c ≡ a + b → AddedAt t from i a v₀ v
+    → AddedAt t from′ i′ b v v′ → AddedAt t from i c v₀ v′
+added-join {t} {from} {i = i} {a = a} {c = c} {v₀} {v} {v′} ef ei ec one two =
+    record {
+      long = two .long ∙ one .long;
+      low = λ k l. two .low k (omega arith) ∙ one .low k l;
+      added = λ j l. added j l (decLt j a);
+      high = λ k l. two .high k (omega arith) ∙ one .high k (omega arith);
+    }
+  where
+    added : (j : ℕ) → j < c → Dec (j < a) → place v′ (i + j) ≡ bitXor (place v₀ (i + j)) (place t (from + j))
+    added j l (yes d) = two .low (i + j) (omega arith) ∙ one .added j d
+    added j l (no d) =
+        ap (place v′) (omega arith) ∙ two .added (j - a) (omega arith)
+        ∙ ap₂ bitXor (ap (place v) (omega arith) ∙ one .high (i + j) (omega arith)) (ap (place t) (omega arith))
 
 -- ---- the remainder of the coefficients from place i on, of k
 
@@ -127,37 +145,37 @@ module _ (F : FieldOps) (d : ℕ) (g : ℕ → ℕ) where
 
 -- ---- the loop
 
--- of v₀'s k coefficients i are left; q has the quotient's places from i on
-pub record Window (stride span p n d k : ℕ) (t v₀ : List ℕ) (i : ℕ) (q v : List ℕ) : Type 0 where
+-- of v₀'s k coefficients i are left; q, as long as q₀, has the quotient's places from i on
+pub record Dividing (stride p n d k : ℕ) (t v₀ q₀ : List ℕ) (i : ℕ) (q v : List ℕ) : Type 0 where
   pub within : i + d ≤ k
-  pub long : length v ≡ stride
+  pub long : length v ≡ length v₀
   pub symbols : Stored p (i + d) v
   pub low : (j : ℕ) → j < i → place v j ≡ place v₀ j
   pub rest : (j : ℕ) → j < d → place v (i + j) ≡ above (gf p) d (wordOf stride n t) k (place v₀) i j
-  pub room : length q ≡ span
+  pub room : length q ≡ length q₀
   pub quotient : (j : ℕ) → i ≤ j → j < k - d → place q j ≡ quotientAt (gf p) d (wordOf stride n t) k (place v₀) j
 
 module _ {stride span p n d k : ℕ} {t v₀ : List ℕ} (ok : Dividend stride span p n d k t v₀) where
-  open Dividend ok using (sizes, degree-pos, degree-lt, k-low, k-high, span-high, multiples)
+  open Dividend ok using (sizes, degree-pos, degree-lt, k-low, k-high, n-fits, span-high, multiples)
 
   laws : FieldLaws (gf p)
   laws = gf-laws p (sizes .p-low) (sizes .p-high)
 
-  pub window-start : Window stride span p n d k t v₀ (k - d) (replicate span 0) v₀
-  window-start =
+  pub dividing-start : (q : List ℕ) → Dividing stride p n d k t v₀ q (k - d) q v₀
+  dividing-start q =
       record {
         within = omega arith;
-        long = ok .long;
+        long = refl;
         symbols = record { symbol = λ j b. ok .symbols .symbol j (omega arith) };
         low = λ j b. refl;
         rest = λ j b. sym (above-start (gf p) d (wordOf stride n t) laws degree-pos k (place v₀) k-low j b);
-        room = length-replicate {A = ℕ} span 0;
+        room = refl;
         quotient = λ j a b. absurd (lt-irrefl j (omega arith));
       }
 
-  module _ {i : ℕ} {q v : List ℕ} (h : Window stride span p n d k t v₀ i q v) where
-    pub window-end : i ≤ 0 → DividedBy stride span p k d (wordOf stride n t) (place v₀) q v
-    window-end l =
+  module _ {i : ℕ} {q₀ q v : List ℕ} (h : Dividing stride p n d k t v₀ q₀ i q v) where
+    pub dividing-end : i ≤ 0 → DividedBy p k d (wordOf stride n t) (place v₀) q v
+    dividing-end l =
         let e : i ≡ 0 = omega arith in
         record {
           remains = record {
@@ -166,8 +184,6 @@ module _ {stride span p n d k : ℕ} {t v₀ : List ℕ} (ok : Dividend stride s
                 ∙ above-all (gf p) d (wordOf stride n t) k (place v₀) j ∙ sym (remainder-at (gf p) d (wordOf stride n t) laws k (place v₀) j b);
           };
           places = λ j b. h .quotient j (omega arith) b ∙ sym (quotient-at (gf p) d (wordOf stride n t) laws degree-pos k (place v₀) j);
-          room = h .room;
-          long = h .long;
         }
 
     module _ (left : 0 < i) {c : ℕ} (e : c ≡ place v (i - 1 + d)) where
@@ -201,9 +217,9 @@ module _ {stride span p n d k : ℕ} {t v₀ : List ℕ} (ok : Dividend stride s
           top ∙ ap (λ (m : ℕ). above (gf p) d (wordOf stride n t) k (place v₀) m (pred d)) (omega arith)
           ∙ above-top (gf p) d (wordOf stride n t) k (place v₀) (i - 1) (omega (arith, h .within))
 
-      pub window-more : {v′ : List ℕ} → AddedAt t (stride * c) (i - 1) span v v′
-          → Window stride span p n d k t v₀ (i - 1) (set q (i - 1) (place v (i - 1 + d))) v′
-      window-more {v′} a =
+      pub dividing-more : {v′ : List ℕ} → n ≤ length q₀ → AddedAt t (stride * c) (i - 1) span v v′
+          → Dividing stride p n d k t v₀ q₀ (i - 1) (set q (i - 1) (place v (i - 1 + d))) v′
+      dividing-more {v′} wide a =
           record {
             within = omega (arith, h .within);
             long = a .long ∙ h .long;
@@ -232,26 +248,23 @@ module _ {stride span p n d k : ℕ} {t v₀ : List ℕ} (ok : Dividend stride s
               (subst (λ (x : ℕ). x < 2 ^ p) (sym (a .added m (omega arith)))
               (laws .add-below _ _ (h .symbols .symbol (i - 1 + m) (omega arith)) (multiples .symbol c m top-symbol (omega arith))))
 
--- ---- an array that holds a word, and what is left of it
+-- ---- what is left of a word
 
-module _ {p size k : ℕ} {w : ℕ → ℕ} {v : List ℕ} (e : v ≡ padded size k w) (l : k ≤ size) where
-  pub padded-divided : {stride span n d : ℕ} {g : ℕ → ℕ} {q r : List ℕ} → Sizes p n → 1 ≤ d → DividedBy stride span p k d g (place v) q r
-      → DividedBy stride span p k d g w q r
-  padded-divided {d = d} {g} sizes pos h =
-      let laws = gf-laws p (sizes .p-low) (sizes .p-high) in
-      let same : (j : ℕ) → j < k → place v j ≡ w j = λ j b. read-padded w e l b in
-      record {
-        remains = record {
-          places = λ j b.
-              h .remains .places j b ∙ remainder-at (gf p) d g laws k (place v) j b
-              ∙ remainder-cong (gf p) d g laws k (place v) w same j ∙ sym (remainder-at (gf p) d g laws k w j b);
-        };
-        places = λ i b.
-            h .places i b ∙ quotient-at (gf p) d g laws pos k (place v) i ∙ quotient-cong (gf p) d g laws pos k (place v) w same i
-            ∙ sym (quotient-at (gf p) d g laws pos k w i);
-        room = h .room;
-        long = h .long;
-      }
+-- the division goes by the coefficients
+pub divided-same : {p n k d : ℕ} {g : ℕ → ℕ} (w w′ : ℕ → ℕ) {q r : List ℕ} → Sizes p n → 1 ≤ d → ((j : ℕ) → j < k → w j ≡ w′ j)
+    → DividedBy p k d g w q r → DividedBy p k d g w′ q r
+divided-same {p} {k = k} {d} {g} w w′ sizes pos same h =
+    let laws = gf-laws p (sizes .p-low) (sizes .p-high) in
+    record {
+      remains = record {
+        places = λ j b.
+            h .remains .places j b ∙ remainder-at (gf p) d g laws k w j b ∙ remainder-cong (gf p) d g laws k w w′ same j
+            ∙ sym (remainder-at (gf p) d g laws k w′ j b);
+      };
+      places = λ i b.
+          h .places i b ∙ quotient-at (gf p) d g laws pos k w i ∙ quotient-cong (gf p) d g laws pos k w w′ same i
+          ∙ sym (quotient-at (gf p) d g laws pos k w′ i);
+    }
 
 -- the test that is made of it is the definition's of the remainder
 pub remains-test : {p k d : ℕ} {g w : ℕ → ℕ} {r : List ℕ} → Remains p k d g w r → allZero d r ≡ allZero d (remainder (gf p) d g k w)
@@ -268,38 +281,35 @@ unity-symbol {p} {n} sizes j = go (eqb j 0 || eqb j n)
     go true = gf-laws p (sizes .p-low) (sizes .p-high) .one-below
     go false = zero-below (gf p) (gf-laws p (sizes .p-low) (sizes .p-high))
 
-pub unity-padded : (size n : ℕ) → 1 ≤ n → n < size → set (set (replicate size 0) 0 1) n 1 ≡ padded size (n + 1) (unity n)
+pub unity-put : {n : ℕ} {v₀ v : List ℕ} → 1 ≤ n → n < length v₀ → Window 0 n (λ j. 0) v₀ v → Window 0 (n + 1) (unity n) v₀ (set (set v 0 1) n 1)
 unfolding unity
-unity-padded size n pos l =
-    held-padded
-    (record {
-      long = long;
-      at = λ k b. value k (ℕ-discrete k n) (ℕ-discrete k 0);
-      rest = λ k b. other k (omega arith) (omega arith);
-    })
+unity-put {n} {v₀} {v} pos l h =
+    record {
+      long = length-set (set v 0 1) n 1 ∙ length-set v 0 1 ∙ h .long;
+      at = λ k b. ap (place ones) (omega arith) ∙ value k b (ℕ-discrete k n) (ℕ-discrete k 0);
+      low = λ k b. absurd (not-suc-le-zero b);
+      high = λ k b. other k (omega arith) (omega arith) ∙ h .high k (omega arith);
+    }
   where
     ones : List ℕ
-    ones = set (set (replicate size 0) 0 1) n 1
+    ones = set (set v 0 1) n 1
 
-    long-first : length {A = ℕ} (set (replicate size 0) 0 1) ≡ size
-    long-first = length-set {A = ℕ} (replicate size 0) 0 1 ∙ length-replicate {A = ℕ} size 0
+    long : length (set v 0 1) ≡ length v₀
+    long = length-set v 0 1 ∙ h .long
 
-    long : length ones ≡ size
-    long = length-set {A = ℕ} (set (replicate size 0) 0 1) n 1 ∙ long-first
+    other : (k : ℕ) → k ≢ n → k ≢ 0 → place ones k ≡ place v k
+    other k a b = getD-set-other (set v 0 1) n k 1 0 a ∙ getD-set-other v 0 k 1 0 b
 
-    other : (k : ℕ) → k ≢ n → k ≢ 0 → place ones k ≡ 0
-    other k a b = getD-set-other {A = ℕ} (set (replicate size 0) 0 1) n k 1 0 a ∙ getD-set-other {A = ℕ} (replicate size 0) 0 k 1 0 b ∙ zero-at size k
-
-    value : (k : ℕ) → Dec (k ≡ n) → Dec (k ≡ 0) → place ones k ≡ unity n k
-    value k (yes a) z =
+    value : (k : ℕ) → k < n + 1 → Dec (k ≡ n) → Dec (k ≡ 0) → place ones k ≡ unity n k
+    value k b (yes a) z =
         subst (λ (k : ℕ). place ones k ≡ unity n k) (sym a)
-        (getD-set-same {A = ℕ} (set (replicate size 0) 0 1) n 1 0 (omega (arith, long-first))
+        (getD-set-same (set v 0 1) n 1 0 (omega (arith, long))
         ∙ sym (ap₂ (λ (a b : Bool). cond (a || b) 1 0) (ne-eqb n 0 (omega arith)) (eq-eqb n n refl)))
-    value k (no a) (yes z) =
+    value k b (no a) (yes z) =
         subst (λ (k : ℕ). place ones k ≡ unity n k) (sym z)
-        (getD-set-other {A = ℕ} (set (replicate size 0) 0 1) n 0 1 0 (omega arith)
-        ∙ getD-set-same {A = ℕ} (replicate size 0) 0 1 0 (omega (arith, length-replicate {A = ℕ} size 0)))
-    value k (no a) (no z) = other k a z ∙ sym (ap₂ (λ (a b : Bool). cond (a || b) 1 0) (ne-eqb k 0 z) (ne-eqb k n a))
+        (getD-set-other (set v 0 1) n 0 1 0 (omega arith) ∙ getD-set-same v 0 1 0 (omega (arith, h .long)))
+    value k b (no a) (no z) =
+        other k a z ∙ window-at h k (omega arith) ∙ sym (ap₂ (λ (a b : Bool). cond (a || b) 1 0) (ne-eqb k 0 z) (ne-eqb k n a))
 
 pub unity-test : (n : ℕ) {p d : ℕ} {g : ℕ → ℕ} {r : List ℕ} → Remains p (n + 1) d g (unity n) r
     → allZero d r ≡ divides (gf p) d g (suc n) (unity n)

@@ -16,11 +16,12 @@ pub record Dividend (stride span p n d k : ℕ) (t v : List ℕ) : Type 0 where
   pub degree-pos : 1 ≤ d
   pub degree-lt : d < n
   pub k-low : d ≤ k
-  pub k-high : k ≤ span
+  pub k-high : k ≤ n + 1
+  pub n-fits : n < span
   pub span-high : span ≤ stride
   pub symbols : Stored p k v
   pub multiples : Multiples stride p n t
-  pub long : length v ≡ stride
+  pub long : n + span ≤ length v
 
 -- v is v₀ with `count` places of t, from `from` on, added to those from i on
 pub record AddedAt (t : List ℕ) (from i count : ℕ) (v₀ v : List ℕ) : Type 0 where
@@ -33,9 +34,7 @@ pub record AddedAt (t : List ℕ) (from i count : ℕ) (v₀ v : List ℕ) : Typ
 pub record Remains (p k d : ℕ) (g w : ℕ → ℕ) (r : List ℕ) : Type 0 where
   pub places : (j : ℕ) → j < d → place r j ≡ coefficients (remainder (gf p) d g k w) j
 
--- q, of `span` places, starts with the quotient of the k coefficients of w by g, of degree d, and r, of `stride`, with the remainder
-pub record DividedBy (stride span p k d : ℕ) (g w : ℕ → ℕ) (q r : List ℕ) : Type 0 where
+-- q starts with the quotient of the k coefficients of w by g, of degree d, and r with the remainder
+pub record DividedBy (p k d : ℕ) (g w : ℕ → ℕ) (q r : List ℕ) : Type 0 where
   pub remains : Remains p k d g w r
   pub places : (i : ℕ) → i < k - d → place q i ≡ coefficients (quotient (gf p) d g k w) i
-  pub room : length q ≡ span
-  pub long : length r ≡ stride

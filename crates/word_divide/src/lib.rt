@@ -1,93 +1,177 @@
 // Division by a generator whose multiples stand in a table. The remainder so far is a window of d places in the word itself, which moves down by one
 // place a step; what is above the window is not read again.
 ghost use mathlib.Core.Path.{_≡_};
-ghost use Prim.Native.Nat.{suc, _+_, _≤_, _<_};
+ghost use Prim.Native.Nat.{suc, _+_, _*_, _≤_, _<_};
 ghost use lib.ListN.{length};
-ghost use Rattle.spec_range.specs.Table.{padded};
 ghost use Rattle.spec_field.specs.Symbols.{gf};
 ghost use Rattle.spec_word.specs.Division.{divides};
 ghost use Rattle.spec_word.specs.CyclicCode.{unity};
+ghost use Rattle.sizes.specs.Blocks.{span, stride};
 ghost use Rattle.word_array.specs.Stored.{place, Sizes, Stored};
 ghost use Rattle.word_table.specs.Multiples.{wordOf, Multiples};
-ghost use Rattle.word_divide.specs.Window.{Dividend, AddedAt, Remains, DividedBy};
+ghost use Rattle.word_table.specs.Window.{Window};
+ghost use Rattle.word_divide.specs.Window.{Dividend, AddedAt, DividedBy};
+use sizes::BLOCK;
 use sizes::SPAN;
 use sizes::STRIDE;
-use sizes::Word;
 
-// Quotient and remainder: the first n - d places of the one, and the first d of the other.
-pub struct Divided {
-    pub quotient: [u8; SPAN],
-    pub remainder: [u8; STRIDE],
-}
-
-// x^n - 1 in STRIDE places.
-fn unity(n: usize) -> [u8; STRIDE]
-    requires { ⌜ (1 ≤ n) × (n ≤ 63) ⌝ }
-    ensures { λ r. ⌜ r ≡ padded 128 (n + 1) (unity n) ⌝ }
+// Room for the longest word's division, and for its quotient. Only the lengths matter: what is read is written first.
+pub fn room() -> [u8; STRIDE]
+    ensures { λ r. ⌜ 512 ≡ length r ⌝ }
 {
-    let mut out = [0u8; STRIDE];
-    out[0] = 1;
-    out[n] = 1;
-    out
+    [0; STRIDE]
 }
 
-// Adds SPAN places of a table to the places from i on.
-fn add_row_at(t: &[u8], from: usize, i: usize, v: &mut [u8; STRIDE])
-    requires { ⌜ (from + 64 ≤ length (now t)) × (i ≤ 64) × (length (now v) ≡ 128) ⌝ }
+pub fn quotient_room() -> [u8; SPAN]
+    ensures { λ r. ⌜ 256 ≡ length r ⌝ }
+{
+    [0; SPAN]
+}
+
+// The same for words of one block: to clear more costs time.
+fn short_room() -> [u8; 2 * BLOCK]
+    ensures { λ r. ⌜ 128 ≡ length r ⌝ }
+{
+    [0; 2 * BLOCK]
+}
+
+fn short_quotient_room() -> [u8; BLOCK]
+    ensures { λ r. ⌜ 64 ≡ length r ⌝ }
+{
+    [0; BLOCK]
+}
+
+// Adds the block of a table from `from` on to the places from i on.
+fn add_block_at(t: &[u8], from: usize, i: usize, v: &mut [u8])
+    requires { ⌜ (from + 64 ≤ length (now t)) × (i + 64 ≤ length (now v)) ⌝ }
     ensures { λ _. ⌜ AddedAt (now (t .entry)) from i 64 (now (v .entry)) (now (v .exit)) ⌝ }
 {
     let mut j = 0;
-    while j < SPAN {
+    while j < BLOCK {
         v[i + j] = v[i + j] ^ t[from + j];
         j += 1;
     }
 }
 
-// Divides the k lowest coefficients of v by the table's word g, of degree d: leaves the remainder in the first d places of v and hands back the quotient.
-// The d highest coefficients are their own remainder, and each top of the window is a coefficient of the quotient.
-fn divide_in(p: u8, n: usize, d: usize, k: usize, t: &[u8], v: &mut [u8; STRIDE]) -> [u8; SPAN]
-    requires { ⌜ Dividend 128 64 p n d k (now t) (now v) ⌝ }
-    ensures { λ r. ⌜ DividedBy 128 64 p k d (wordOf 128 n (now (t .entry))) (place (now (v .entry))) r (now (v .exit)) ⌝ }
+// Adds as many blocks.
+fn add_row_at(blocks: usize, t: &[u8], from: usize, i: usize, v: &mut [u8])
+    requires { ⌜ (from + 64 * blocks ≤ length (now t)) × (i + 64 * blocks ≤ length (now v)) ⌝ }
+    ensures { λ _. ⌜ AddedAt (now (t .entry)) from i (64 * blocks) (now (v .entry)) (now (v .exit)) ⌝ }
 {
-    let mut quotient = [0u8; SPAN];
+    let mut b = 0;
+    while b < blocks {
+        add_block_at(t, from + BLOCK * b, i + BLOCK * b, v);
+        b += 1;
+    }
+}
+
+// Divides the k lowest coefficients of v by the table's word g, of degree d: leaves the remainder in the first d places of v and writes the quotient.
+// The d highest coefficients are their own remainder, and each top of the window is a coefficient of the quotient.
+fn divide_in(p: u8, n: usize, d: usize, k: usize, t: &[u8], v: &mut [u8], quotient: &mut [u8])
+    requires { ⌜ Dividend (stride n) (span n) p n d k (now t) (now v) × (n ≤ length (now quotient)) ⌝ }
+    ensures { λ _. ⌜ DividedBy p k d (wordOf (stride n) n (now (t .entry))) (place (now (v .entry))) (now (quotient .exit)) (now (v .exit)) ⌝ }
+{
+    let blocks = sizes::blocks(n);
     let mut i = k - d;
     while 0 < i {
         i -= 1;
         let top = v[i + d];
         quotient[i] = top;
-        add_row_at(t, STRIDE * sizes::wide(top), i, v);
-    }
-    quotient
-}
-
-// The division of the n coefficients of w by the table's word g, of degree d: the message of a code word, and the remainder that tells a code word.
-pub fn divide(p: u8, n: usize, d: usize, t: &[u8], w: Word) -> Divided
-    requires { ⌜ Sizes p n × (1 ≤ d) × (d < n) × Stored p n w × Multiples 128 p n (now t) ⌝ }
-    ensures { λ r. ⌜ DividedBy 128 64 p n d (wordOf 128 n (now (t .entry))) (place w) (r .quotient) (r .remainder) ⌝ }
-{
-    let mut v = word_table::extended(n, &w);
-    let quotient = divide_in(p, n, d, n, t, &mut v);
-    Divided {
-        quotient,
-        remainder: v,
+        add_row_at(blocks, t, 2 * BLOCK * blocks * sizes::wide(top), i, v);
     }
 }
 
-// The remainder alone, which is all that the test for a code word asks.
-pub fn remainder(p: u8, n: usize, d: usize, t: &[u8], w: Word) -> [u8; STRIDE]
-    requires { ⌜ Sizes p n × (1 ≤ d) × (d < n) × Stored p n w × Multiples 128 p n (now t) ⌝ }
-    ensures { λ r. ⌜ Remains p n d (wordOf 128 n (now (t .entry))) (place w) r × (length r ≡ 128) ⌝ }
+// Copies the first n places of a word.
+fn copy(n: usize, w: &[u8], v: &mut [u8])
+    requires { ⌜ (n ≤ length (now w)) × (n ≤ length (now v)) ⌝ }
+    ensures { λ _. ⌜ Window 0 n (place (now (w .entry))) (now (v .entry)) (now (v .exit)) ⌝ }
 {
-    let parts = divide(p, n, d, t, w);
-    parts.remainder
+    let mut j = 0;
+    while j < n {
+        v[j] = w[j];
+        j += 1;
+    }
+}
+
+// The division of the n coefficients of w by the table's word g, of degree d, in lent rooms: the message of a code word, and the remainder that tells a
+// code word.
+pub fn divide(p: u8, n: usize, d: usize, t: &[u8], w: &[u8], v: &mut [u8], quotient: &mut [u8])
+    requires { ⌜ Sizes p n × (1 ≤ d) × (d < n) × (n ≤ length (now w)) × Stored p n (now w) × Multiples (stride n) p n (now t)
+        × (n + span n ≤ length (now v)) × (n ≤ length (now quotient)) ⌝ }
+    ensures { λ _. ⌜ DividedBy p n d (wordOf (stride n) n (now (t .entry))) (place (now (w .entry))) (now (quotient .exit)) (now (v .exit)) ⌝ }
+{
+    copy(n, w, v);
+    divide_in(p, n, d, n, t, v, quotient);
+}
+
+// Whether the remainder is zero, which is all that the test for a code word asks, with the rooms lent.
+fn divides_in(
+    p: u8,
+    n: usize,
+    d: usize,
+    t: &[u8],
+    w: &[u8],
+    v: &mut [u8],
+    quotient: &mut [u8],
+) -> bool
+    requires { ⌜ Sizes p n × (1 ≤ d) × (d < n) × (n ≤ length (now w)) × Stored p n (now w) × Multiples (stride n) p n (now t)
+        × (n + span n ≤ length (now v)) × (n ≤ length (now quotient)) ⌝ }
+    ensures { λ r. ⌜ r ≡ divides (gf p) d (wordOf (stride n) n (now (t .entry))) n (place (now (w .entry))) ⌝ }
+{
+    divide(p, n, d, t, w, v, quotient);
+    word_array::is_zero(d, v)
+}
+
+// Whether the table's word g, of degree d, divides the n coefficients of w.
+pub fn divides(p: u8, n: usize, d: usize, t: &[u8], w: &[u8]) -> bool
+    requires { ⌜ Sizes p n × (1 ≤ d) × (d < n) × (n ≤ length (now w)) × Stored p n (now w) × Multiples (stride n) p n (now t) ⌝ }
+    ensures { λ r. ⌜ r ≡ divides (gf p) d (wordOf (stride n) n (now (t .entry))) n (place (now (w .entry))) ⌝ }
+{
+    if n < BLOCK {
+        let mut v = short_room();
+        let mut quotient = short_quotient_room();
+        return divides_in(p, n, d, t, w, &mut v, &mut quotient);
+    }
+    let mut v = room();
+    let mut quotient = quotient_room();
+    divides_in(p, n, d, t, w, &mut v, &mut quotient)
+}
+
+// Writes x^n - 1.
+fn put_unity(n: usize, v: &mut [u8])
+    requires { ⌜ (1 ≤ n) × (n < length (now v)) ⌝ }
+    ensures { λ _. ⌜ Window 0 (n + 1) (unity n) (now (v .entry)) (now (v .exit)) ⌝ }
+{
+    let mut j = 0;
+    while j < n {
+        v[j] = 0;
+        j += 1;
+    }
+    v[0] = 1;
+    v[n] = 1;
+}
+
+// Whether the table's word g, of degree d, divides x^n - 1, with the rooms lent.
+fn divides_unity_in(p: u8, n: usize, d: usize, t: &[u8], v: &mut [u8], quotient: &mut [u8]) -> bool
+    requires { ⌜ Sizes p n × (1 ≤ d) × (d < n) × Multiples (stride n) p n (now t) × (n + span n ≤ length (now v)) × (n ≤ length (now quotient)) ⌝ }
+    ensures { λ r. ⌜ r ≡ divides (gf p) d (wordOf (stride n) n (now (t .entry))) (suc n) (unity n) ⌝ }
+{
+    put_unity(n, v);
+    divide_in(p, n, d, n + 1, t, v, quotient);
+    word_array::is_zero(d, v)
 }
 
 // Whether the table's word g, of degree d, divides x^n - 1.
 pub fn divides_unity(p: u8, n: usize, d: usize, t: &[u8]) -> bool
-    requires { ⌜ Sizes p n × (1 ≤ d) × (d < n) × Multiples 128 p n (now t) ⌝ }
-    ensures { λ r. ⌜ r ≡ divides (gf p) d (wordOf 128 n (now (t .entry))) (suc n) (unity n) ⌝ }
+    requires { ⌜ Sizes p n × (1 ≤ d) × (d < n) × Multiples (stride n) p n (now t) ⌝ }
+    ensures { λ r. ⌜ r ≡ divides (gf p) d (wordOf (stride n) n (now (t .entry))) (suc n) (unity n) ⌝ }
 {
-    let mut v = unity(n);
-    divide_in(p, n, d, n + 1, t, &mut v);
-    word_array::is_zero(d, &v)
+    if n < BLOCK {
+        let mut v = short_room();
+        let mut quotient = short_quotient_room();
+        return divides_unity_in(p, n, d, t, &mut v, &mut quotient);
+    }
+    let mut v = room();
+    let mut quotient = quotient_room();
+    divides_unity_in(p, n, d, t, &mut v, &mut quotient)
 }

@@ -6,13 +6,17 @@ use Prim.Native.Nat.{ℕ, _+_, _*_, _%_, _^_, _≤_, _<_}
 use lib.ListN.{length}
 use Rattle.spec_field.specs.Symbols.{gf}
 use Rattle.spec_field.specs.Symbols as symbols
-use Rattle.spec_word.specs.Word.{at, product}
+use Rattle.spec_word.specs.Word.{product}
 use Rattle.word_array.specs.Stored.{place, Stored}
 
--- d holds a word w of n symbols twice over; all its places are symbols
-pub record Twofold (stride p n : ℕ) (w d : List ℕ) : Type 0 where
-  pub symbols : Stored p stride d
-  pub places : (j : ℕ) → j < n + n → place d j ≡ at n w j
+-- the word of n symbols whose places are f's was laid twice over from `to` on, in n + span places, which are symbols where f's are; f is read below
+-- span - 1; the other places, and the length, are as before
+pub record Laid (n span : ℕ) (f : ℕ → ℕ) (to : ℕ) (t₀ t : List ℕ) : Type 0 where
+  pub long : length t ≡ length t₀
+  pub twice : (j : ℕ) → j < n + n → place t (to + j) ≡ f (j % n)
+  pub below : (q : ℕ) → 0 < q → ((j : ℕ) → j + 1 < span → f j < q) → (j : ℕ) → j < n + span → place t (to + j) < q
+  pub low : (k : ℕ) → k < to → place t k ≡ place t₀ k
+  pub high : (k : ℕ) → to + (n + span) ≤ k → place t k ≡ place t₀ k
 
 -- the entry in row c at place j
 abbrev pub entry : ℕ → List ℕ → ℕ → ℕ → ℕ
@@ -27,11 +31,12 @@ pub record Multiples (stride p n : ℕ) (t : List ℕ) : Type 0 where
   pub symbol : (c j : ℕ) → c < 2 ^ p → j < stride → entry stride t c j < 2 ^ p
   pub multiple : (c j : ℕ) → c < 2 ^ p → j < n + n → entry stride t c j ≡ symbols.product p c (wordOf stride n t j)
 
--- the first n places of row 0 of t became zero, and those of row 1 became d's; the length is as before
-pub record Begun (stride n : ℕ) (d t₀ t : List ℕ) : Type 0 where
+-- row 0 of t became zero, and row 1 the word of n symbols whose places are f's, twice over, with symbols only where f's are; the length is as before
+pub record Begun (stride n span : ℕ) (f : ℕ → ℕ) (t₀ t : List ℕ) : Type 0 where
   pub long : length t ≡ length t₀
-  pub zeros : (j : ℕ) → j < n → place t j ≡ 0
-  pub word : (j : ℕ) → j < n → entry stride t 1 j ≡ place d j
+  pub zeros : (j : ℕ) → j < stride → place t j ≡ 0
+  pub twice : (j : ℕ) → j < n + n → entry stride t 1 j ≡ f (j % n)
+  pub below : (q : ℕ) → 0 < q → ((j : ℕ) → j + 1 < span → f j < q) → (j : ℕ) → j < stride → entry stride t 1 j < q
 
 -- row c of t has symbols only
 pub record RowStored (stride p c : ℕ) (t : List ℕ) : Type 0 where
@@ -44,11 +49,11 @@ pub record RowPut (stride c : ℕ) (f : ℕ → ℕ) (t₀ t : List ℕ) : Type 
   pub low : (k : ℕ) → k < stride * c → place t k ≡ place t₀ k
   pub high : (k : ℕ) → stride * c + stride ≤ k → place t k ≡ place t₀ k
 
--- t became the table of the word w, and is as long as before
-pub record Tabled (stride p n : ℕ) (w t₀ t : List ℕ) : Type 0 where
+-- t became the table of the word of n symbols whose places are f's, and is as long as before
+pub record Tabled (stride p n : ℕ) (f : ℕ → ℕ) (t₀ t : List ℕ) : Type 0 where
   pub long : length t ≡ length t₀
   pub multiples : Multiples stride p n t
-  pub word : (j : ℕ) → wordOf stride n t j ≡ at n w j
+  pub word : (j : ℕ) → wordOf stride n t j ≡ f (j % n)
 
 -- r has the product of b and f below n; all its places are symbols
 pub record Multiplied (span p n : ℕ) (b f : ℕ → ℕ) (r : List ℕ) : Type 0 where

@@ -1,5 +1,6 @@
 //! What the tests draw: codebooks with the L, I and D wanted, and buffers.
 
+use reference::books;
 use reference::codebook::{check, Codebook};
 use reference::generate::{self, Random};
 
@@ -16,8 +17,9 @@ pub fn bytes(size: usize, random: &mut Random) -> Vec<u8> {
 
 /// A size that need not be the exact one, but often is nearly.
 pub fn size(exact: usize, random: &mut Random) -> usize {
-    let any = random.between(0, 130);
-    *random.pick(&[0, exact.saturating_sub(1), exact + 1, 2 * exact, 63, any])
+    let any = random.between(0, 2 * exact + 8);
+    let near = [exact.saturating_sub(1), exact + 1, 2 * exact];
+    *random.pick(&[0, near[0], near[1], near[2], 63, 255, any])
 }
 
 /// A codebook's bytes and its parts.
@@ -38,10 +40,24 @@ impl Book {
         Book::new(generate::book(s, p, random).expect("s and p of a codebook"))
     }
 
+    /// The stored codebooks of the s and p: all of the long form.
+    pub fn stored(s: u8, p: u8) -> impl Iterator<Item = Book> {
+        let all = books::LONG.into_iter();
+        all.map(|(_, bytes)| Book::new(bytes.to_vec()))
+            .filter(move |book| (book.parts.s(), book.parts.field().p()) == (s, p))
+    }
+
+    /// s and p, as the tests name them.
+    pub fn shape(&self) -> String {
+        format!("{} {}", self.parts.s(), self.parts.field().p())
+    }
+
     /// The same with the first so many dual words, and other I and D.
     pub fn with(&self, l: usize, i: u8, d: u8) -> Book {
-        let mut bytes = self.bytes[..70 + 64 * l].to_vec();
-        bytes[68..70].copy_from_slice(&[i, d]);
+        let form = self.parts.form();
+        let mut bytes = self.bytes[..form.length(l)].to_vec();
+        let limits = form.limits();
+        bytes[limits + 1..limits + 3].copy_from_slice(&[i, d]);
         Book::new(bytes)
     }
 
@@ -74,10 +90,13 @@ pub struct Shelf {
 impl Shelf {
     /// Half of the codebooks are light: short messages, and few or light
     /// dual words. Their rounds take little time, and they are the ones that
-    /// take more than one round to mend.
+    /// take more than one round to mend. Of the long form those are stored,
+    /// since one that is drawn seldom is.
     pub fn new(s: u8, p: u8, count: usize, random: &mut Random) -> Shelf {
         let (mut any, mut light) = (Vec::new(), Vec::new());
-        while any.len() + light.len() < count {
+        light.extend(Book::stored(s, p).filter(|book| book.products(book.parts.l(), 1) < 300_000));
+        let wanted = if s > 6 { count / 2 } else { count };
+        while any.len() + light.len() < wanted {
             let book = Book::any(s, p, random);
             let short = 2 * book.parts.k() <= book.parts.n();
             let few = book.products(book.parts.l(), 1) <= 60_000;

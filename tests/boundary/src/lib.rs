@@ -6,6 +6,7 @@ pub mod draw;
 pub mod tally;
 pub mod way;
 
+use reference::codebook::Codebook;
 use reference::packed;
 
 extern "C" {
@@ -106,7 +107,41 @@ impl Operation {
             Operation::Decode => packed::decode(book, input, output),
         }
     }
+
+    /// The same for an accepted codebook that is open, since it takes long to
+    /// check it for every call.
+    pub fn opened(self, book: &Codebook, input: &[u8], output: &mut [u8]) -> u32 {
+        match self {
+            Operation::Check => packed::pack_check(&Ok(book.clone())),
+            Operation::Code => packed::pack_done(book.code(input, output)),
+            Operation::Read => packed::pack_done(book.read(input, output)),
+            Operation::Remainder => packed::pack_done(book.remainder(input, output)),
+            Operation::Decode => {
+                let mut entries = vec![0; book.entries()];
+                packed::pack_decode(book.decode(input, output, &mut entries))
+            }
+        }
+    }
+
+    /// The exact size of its output.
+    pub fn exact(self, book: &Codebook) -> usize {
+        match self {
+            Operation::Check => 0,
+            Operation::Read => book.k(),
+            Operation::Remainder => book.n() - book.k(),
+            Operation::Code | Operation::Decode => book.n(),
+        }
+    }
 }
+
+/// All of them.
+pub const OPERATIONS: [Operation; 5] = [
+    Operation::Check,
+    Operation::Code,
+    Operation::Read,
+    Operation::Remainder,
+    Operation::Decode,
+];
 
 /// Whether a codebook is accepted.
 pub fn check(book: &[u8]) -> u32 {

@@ -1,24 +1,28 @@
 //! The ways of damage, and the lengths of a message, so that a test can tell
 //! that it met every one.
 
-use reference::field::Field;
+use reference::form::{Form, LONG, SHORT};
 use reference::generate::likeness;
 use reference::word;
 
 use crate::draw::Book;
 
-/// All the ways in which a codebook can meet a condition.
-pub const WAYS: [&str; 37] = [
+/// All the ways in which a codebook can meet a condition, of either form.
+pub const WAYS: [&str; 41] = [
     "1 empty",
+    "1 fewer than 4 bytes",
     "1 short",
     "1 no dual word",
     "1 odd",
     "1 long",
+    "1 length of the other form",
+    "1 byte 3 of the other form",
     "2 first",
     "2 second",
     "2 third",
     "2 dual word",
     "3 s",
+    "3 s of the other form",
     "3 p",
     "3 both",
     "4 generator symbol",
@@ -83,60 +87,85 @@ pub fn length(k: usize, message: &[u8]) -> &'static str {
 
 /// In which way an accepted codebook was damaged so that the condition holds.
 pub fn way(book: &Book, fault: u8, damaged: &[u8]) -> String {
-    let (n, q, l) = (book.parts.n(), book.parts.q(), book.parts.l());
-    let symbol = |body: &[u8]| body[..n].iter().any(|&symbol| symbol >= q);
-    let place = |body: &[u8]| body[n..].iter().any(|&byte| byte != 0);
+    let (n, form) = (book.parts.n(), book.parts.form());
+    let limits = form.limits();
     let way = match fault {
-        1 => match damaged.len() {
-            0 => "empty",
-            70 => "no dual word",
-            1..134 => "short",
-            2119.. => "long",
-            _ => "odd",
-        },
-        2 => match (damaged[0], damaged[3], damaged[67]) {
-            (1, 2, 3) => "dual word",
-            (1, 2, _) => "third",
+        1 => length_way(form, damaged),
+        2 => match (damaged[0], damaged[3], damaged[limits]) {
+            (1, kind, 3) if kind == form.generator => "dual word",
+            (1, kind, _) if kind == form.generator => "third",
             (1, _, _) => "second",
             _ => "first",
         },
-        3 => match ((2..=6).contains(&damaged[1]), damaged[2]) {
-            (true, _) => "p",
-            (false, 1..=6) => "s",
-            (false, _) => "both",
+        3 => match (damaged[1], damaged[2]) {
+            (s, _) if form.sizes.contains(&s) => "p",
+            (2..=8, 1..=6) => "s of the other form",
+            (_, 1..=6) => "s",
+            (_, _) => "both",
         },
-        4 if symbol(&damaged[4..67]) => "generator symbol",
-        4 if place(&damaged[4..67]) => "generator place",
-        4 if bodies(damaged).any(symbol) => "dual word symbol",
-        4 => "dual word place",
-        5 => match word::degree(&damaged[4..67]) {
+        4 => place_way(book, damaged),
+        5 => match word::degree(&damaged[4..limits]) {
             None => "zero",
             Some(0) => "degree",
             Some(lead) if damaged[4 + lead] != 1 => "lead",
             Some(_) => "divisor",
         },
-        6 => match ((1..=63).contains(&damaged[68]), damaged[69]) {
+        6 => match ((1..=63).contains(&damaged[limits + 1]), damaged[limits + 2]) {
             (true, _) => "D",
             (false, d) if (1..=n).contains(&d.into()) => "I",
             (false, _) => "both",
         },
-        7 => return format!("7 {}", dual_word_way(book.parts.field(), n, l, damaged)),
-        _ => return format!("8 {}", copy_way(book.parts.field(), n, l, damaged)),
+        7 => return format!("7 {}", dual_word_way(book, damaged)),
+        _ => return format!("8 {}", copy_way(book, damaged)),
     };
     format!("{fault} {way}")
 }
 
+/// Which length a codebook of the form has that is none of the form's.
+fn length_way(form: &Form, damaged: &[u8]) -> &'static str {
+    let other = if form == &SHORT { &LONG } else { &SHORT };
+    match damaged.len() {
+        0 => "empty",
+        1..4 => "fewer than 4 bytes",
+        _ if damaged[3] == other.generator => "byte 3 of the other form",
+        length if length == form.length(0) => "no dual word",
+        length if other.count(length).is_some() => "length of the other form",
+        length if length < form.length(1) => "short",
+        length if length > form.length(32) => "long",
+        _ => "odd",
+    }
+}
+
+/// In which body a symbol is q or more, or a place from n on is not zero.
+fn place_way(book: &Book, damaged: &[u8]) -> &'static str {
+    let (n, q, form) = (book.parts.n(), book.parts.q(), book.parts.form());
+    let symbol = |body: &[u8]| body[..n].iter().any(|&symbol| symbol >= q);
+    let place = |body: &[u8]| body[n..].iter().any(|&byte| byte != 0);
+    let generator = &damaged[4..form.limits()];
+    if symbol(generator) {
+        "generator symbol"
+    } else if place(generator) {
+        "generator place"
+    } else if bodies(form, damaged).any(symbol) {
+        "dual word symbol"
+    } else {
+        "dual word place"
+    }
+}
+
 /// The bodies of the dual words.
-fn bodies(book: &[u8]) -> impl Iterator<Item = &[u8]> {
-    book[70..].chunks(64).map(|record| &record[1..])
+fn bodies<'a>(form: &Form, book: &'a [u8]) -> impl Iterator<Item = &'a [u8]> {
+    let records = book[form.dual_words()..].chunks(form.record());
+    records.map(|record| &record[1..])
 }
 
 /// The ways in which a dual word can be a copy that condition 8 finds.
 pub const COPIES: [&str; 3] = ["equal", "turned", "turned and scaled"];
 
 /// In which way one dual word is a copy of another.
-pub fn copy(field: Field, n: usize, damaged: &[u8]) -> Option<&'static str> {
-    let words: Vec<&[u8]> = bodies(damaged).map(|body| &body[..n]).collect();
+pub fn copy(book: &Book, damaged: &[u8]) -> Option<&'static str> {
+    let (field, n, form) = (book.parts.field(), book.parts.n(), book.parts.form());
+    let words: Vec<&[u8]> = bodies(form, damaged).map(|body| &body[..n]).collect();
     (0..words.len())
         .flat_map(|one| (0..one).map(move |other| (one, other)))
         .find(|&(one, other)| word::alike(field, words[one], words[other]))
@@ -144,23 +173,24 @@ pub fn copy(field: Field, n: usize, damaged: &[u8]) -> Option<&'static str> {
 }
 
 /// The same, and whether it came in the place of another dual word.
-fn copy_way(field: Field, n: usize, l: usize, damaged: &[u8]) -> String {
-    let added = match damaged.len() > 70 + 64 * l {
+fn copy_way(book: &Book, damaged: &[u8]) -> String {
+    let added = match damaged.len() > book.bytes.len() {
         true => "added",
         false => "replaced",
     };
-    format!("{} copy {added}", copy(field, n, damaged).unwrap_or("no"))
+    format!("{} copy {added}", copy(book, damaged).unwrap_or("no"))
 }
 
 /// Which of the conditions of a dual word fails, in the first one or in a
 /// later one, or that it is a scaled copy. Of two weights either may be the
 /// wrong one: the later.
-fn dual_word_way(field: Field, n: usize, l: usize, damaged: &[u8]) -> String {
-    let copy = copy_way(field, n, l, damaged);
+fn dual_word_way(book: &Book, damaged: &[u8]) -> String {
+    let (field, n, form) = (book.parts.field(), book.parts.n(), book.parts.form());
+    let copy = copy_way(book, damaged);
     if copy.starts_with("scaled") {
         return copy;
     }
-    let words: Vec<&[u8]> = bodies(damaged).map(|body| &body[..n]).collect();
+    let words: Vec<&[u8]> = bodies(form, damaged).map(|body| &body[..n]).collect();
     let product = |b: &[u8]| word::weight(&word::product(field, b, &damaged[4..4 + n]));
     let which = |index| if index == 0 { "first" } else { "later" };
     if let Some(index) = words.iter().position(|b| b[0] != 1) {

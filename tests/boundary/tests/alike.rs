@@ -172,7 +172,7 @@ fn near_misses() {
         );
     for (s, p) in SHAPES {
         let (field, n) = (field(p), (1 << s) - 1);
-        for trial in 0..if s == 6 { 20 } else { 60 } {
+        for trial in 0..if s >= 6 { 20 } else { 60 } {
             let seed = draw::seed(1, s, p, trial);
             let mut random = Random::new(seed);
             let a = dual_word(n, field.q(), &mut random);
@@ -263,7 +263,9 @@ fn one_pair_at_every_two_positions() {
         let books = (0..80).map(|_| Book::any(s, p, &mut random));
         let book = books.max_by_key(|book| book.parts.l()).expect("some");
         let unlike = book.parts.dual_words();
-        for l in 2..=32.min(unlike.len() + 1) {
+        // Those of many places take long.
+        let few = |l: &usize| s < 7 || [2, 3, 17, 32].contains(l);
+        for l in (2..=32.min(unlike.len() + 1)).filter(few) {
             for (one, other) in positions(s, l) {
                 // The copy comes between the others, all of which stay.
                 let mut words = unlike[..l - 1].to_vec();
@@ -304,20 +306,31 @@ fn stored(name: &str) -> Book {
     Book::new(bytes.expect("a stored codebook"))
 }
 
+/// The dear codebooks, and those of the long form that have two dual words.
+fn dear() -> impl Iterator<Item = (&'static str, Book)> {
+    let long = books::LONG
+        .into_iter()
+        .map(|(name, bytes)| (name, Book::new(bytes.to_vec())))
+        .filter(|(_, book)| book.parts.l() > 1);
+    DEAR.into_iter()
+        .map(|name| (name, stored(name)))
+        .chain(long)
+}
+
 #[test]
 fn codebooks_that_are_dear_to_compare() {
     let mut tally = Tally::new("check, dear codebooks").due("result", ["accepted", "refused"]);
-    for name in DEAR {
-        let book = stored(name);
-        let (words, l) = (book.parts.dual_words(), book.parts.l());
+    for (name, book) in dear() {
+        let (words, l, form) = (book.parts.dual_words(), book.parts.l(), book.parts.form());
         assert_eq!(boundary::check(&book.bytes), 256 * l as u32, "{name}");
         tally.tried();
         tally.count("result", "accepted");
-        let mut random = Random::new(draw::seed(4, 6, book.parts.field().p(), 0));
+        let mut random = Random::new(draw::seed(4, book.parts.s(), book.parts.field().p(), 0));
         for (one, other) in positions(6, l).chain((1..l).map(|one| (one, 0))) {
             let copy = copy(book.parts.field(), &words[one], &mut random);
             let mut damaged = book.bytes.clone();
-            damaged[71 + 64 * other..134 + 64 * other].copy_from_slice(&copy);
+            let to = form.body(other);
+            damaged[to..to + copy.len()].copy_from_slice(&copy);
             let number = refusal(boundary::check(&damaged));
             assert_eq!(number, 8, "{name} {one} {other}");
             tally.tried();

@@ -9,6 +9,7 @@ use boundary::tally::Tally;
 use boundary::way::{way, WAYS};
 use boundary::{refusal, Operation};
 use reference::books;
+use reference::form::Form;
 use reference::generate::{damage, damage_all, Random, SHAPES};
 
 /// The number that both sides return for the bytes, counted.
@@ -34,11 +35,20 @@ fn refusals(numbers: RangeInclusive<u8>) -> impl Iterator<Item = String> {
     numbers.map(|number| format!("refusal {number}"))
 }
 
-/// Checks of s 6 take long, so that fewer are made.
+/// Checks of many places take long, so that fewer are made.
 fn fewer(s: u8, count: u32) -> u32 {
     match s {
         6 => count / 5,
+        7.. => count / 2,
         _ => count,
+    }
+}
+
+/// Where the ways are counted that a codebook of the s is damaged in.
+fn ways(s: u8) -> &'static str {
+    match s {
+        7.. => "way, long form",
+        _ => "way",
     }
 }
 
@@ -47,9 +57,10 @@ fn accepted_and_damaged_codebooks() {
     let mut tally = Tally::new("check, accepted and damaged codebooks")
         .due("result", ["accepted"])
         .due("result", refusals(1..=8))
-        .due("way", WAYS);
+        .due("way", WAYS)
+        .due("way, long form", WAYS);
     for (s, p) in SHAPES {
-        for trial in 0..fewer(s, 100) {
+        for trial in 0..fewer(s, 150) {
             let seed = draw::seed(1, s, p, trial);
             let mut random = Random::new(seed);
             let book = Book::any(s, p, &mut random);
@@ -60,7 +71,7 @@ fn accepted_and_damaged_codebooks() {
                     let mut damaged = book.bytes.clone();
                     damage(&mut damaged, fault, &mut random);
                     assert_eq!(number(seed, &damaged, &mut tally), fault, "seed {seed:#x}");
-                    tally.count("way", way(&book, fault, &damaged));
+                    tally.count(ways(s), way(&book, fault, &damaged));
                 }
             }
         }
@@ -105,7 +116,7 @@ fn several_faults_at_once() {
 #[test]
 fn random_bytes_of_every_length() {
     let mut tally = Tally::new("check, random bytes").due("result", refusals(1..=7));
-    for length in 0..=2300 {
+    for length in (0..=2400).chain(8000..=8600) {
         let seed = draw::seed(4, 0, 0, length);
         let mut random = Random::new(seed);
         let book = draw::bytes(length as usize, &mut random);
@@ -129,33 +140,34 @@ fn random_bytes_of_every_length() {
 /// Random bytes of a codebook's length in which what the conditions before
 /// the one given ask for is right.
 fn right_before(condition: u8, s: u8, p: u8, l: usize, random: &mut Random) -> Vec<u8> {
-    let mut book = draw::bytes(70 + 64 * l, random);
-    let bodies = || (0..=l).map(|index| if index == 0 { 4 } else { 7 + 64 * index });
+    let (form, n) = (Form::with_size(s), (1 << s) - 1);
+    let mut book = draw::bytes(form.length(l), random);
+    let bodies = || std::iter::once(4).chain((0..l).map(|index| form.body(index)));
     if condition > 2 {
-        for (at, kind) in [(0, 1), (3, 2), (67, 3)] {
+        for (at, kind) in [(0, 1), (3, form.generator), (form.limits(), 3)] {
             book[at] = kind;
         }
         for body in bodies().skip(1) {
-            book[body - 1] = 4;
+            book[body - 1] = form.dual_word;
         }
     }
     if condition > 3 {
         (book[1], book[2]) = (s, p);
     }
     if condition > 4 {
-        let n = (1 << s) - 1;
         for body in bodies() {
             book[body..body + n].fill_with(|| random.symbol(0, 1 << p));
-            book[body + n..body + 63].fill(0);
+            book[body + n..body + form.width].fill(0);
         }
     }
+    let limits = form.limits();
     if condition > 5 {
         let right = Book::any(s, p, random).bytes;
-        book[4..67].copy_from_slice(&right[4..67]);
+        book[4..limits].copy_from_slice(&right[4..limits]);
     }
     if condition > 6 {
-        book[68] = random.between(1, 63) as u8;
-        book[69] = random.between(1, (1 << s) - 1) as u8;
+        book[limits + 1] = random.between(1, 63) as u8;
+        book[limits + 2] = random.between(1, n) as u8;
     }
     book
 }
@@ -169,23 +181,24 @@ fn cut_and_extended_codebooks() {
     for (s, p) in SHAPES {
         let seed = draw::seed(5, s, p, 0);
         let mut random = Random::new(seed);
-        let book = Book::any(s, p, &mut random).bytes;
+        let (book, form) = (Book::any(s, p, &mut random).bytes, Form::with_size(s));
         for length in 0..book.len() {
             number(seed, &book[..length], &mut tally);
         }
-        for more in 1..=200 {
+        let records = &book[form.dual_words()..];
+        for more in 1..=form.record() + 8 {
             let zeros = vec![0; more];
-            let own = book[70..].iter().copied().cycle().take(more).collect();
+            let own = records.iter().copied().cycle().take(more).collect();
             let any = draw::bytes(more, &mut random);
             for tail in [zeros, own, any] {
                 number(seed, &[&book[..], &tail].concat(), &mut tally);
             }
         }
         // To 32 dual words and beyond, by the records it has.
-        let all = book[70..].iter().copied().cycle();
+        let (first, all) = (&book[..form.dual_words()], records.iter().copied().cycle());
         for l in 30..=36 {
-            let records: Vec<u8> = all.clone().take(64 * l).collect();
-            number(seed, &[&book[..70], &records].concat(), &mut tally);
+            let records: Vec<u8> = all.clone().take(form.record() * l).collect();
+            number(seed, &[first, &records].concat(), &mut tally);
         }
     }
     tally.finish(13);
@@ -203,7 +216,8 @@ fn every_byte_changed() {
         let book = book.with(book.parts.l().min(2), 3, 1).bytes;
         for at in 0..book.len() {
             let any = random.byte();
-            for byte in [0, 1, 2, 3, 1 << p, 63, 64, 255, any, book[at] ^ 1] {
+            let values = [0, 1 << p, 255, book[at] ^ 1, any, 1, 2, 3, 5, 63, 64];
+            for &byte in &values[..if s > 6 { 4 } else { 11 }] {
                 let mut changed = book.clone();
                 changed[at] = byte;
                 number(seed, &changed, &mut tally);
@@ -216,15 +230,18 @@ fn every_byte_changed() {
 #[test]
 fn every_s_and_p() {
     let mut tally = Tally::new("check, every s and p").due("result", ["accepted", "refusal 3"]);
-    let mut left = 0;
-    for s in 0..=255 {
-        for p in 0..=255 {
-            let mut book = books::a();
+    for (book, long) in [(books::a(), false), (books::long("n255p1"), true)] {
+        let mut left = Vec::new();
+        for (s, p) in (0..=255).flat_map(|s| (0..=255).map(move |p| (s, p))) {
+            let mut book = book.clone();
             (book[1], book[2]) = (s, p);
-            left += u32::from(number(0, &book, &mut tally) != 3);
+            if number(0, &book, &mut tally) != 3 {
+                left.push((s, p));
+            }
         }
+        let due = SHAPES.into_iter().filter(|(s, _)| (*s > 6) == long);
+        assert_eq!(left, due.collect::<Vec<_>>());
     }
-    assert_eq!(left, 13);
     tally.finish(1);
 }
 
@@ -237,7 +254,7 @@ fn the_count_of_dual_words_is_returned() {
         let books = (0..16).map(|_| Book::any(s, p, &mut random));
         let book = books.max_by_key(|book| book.parts.l()).expect("some");
         for l in 1..=book.parts.l() {
-            let bytes = &book.bytes[..70 + 64 * l];
+            let bytes = &book.bytes[..book.parts.form().length(l)];
             assert_eq!(number(seed, bytes, &mut tally), 0, "seed {seed:#x}");
             assert_eq!(boundary::check(bytes), 256 * l as u32, "seed {seed:#x}");
             tally.count("L", l);

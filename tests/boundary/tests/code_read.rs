@@ -8,10 +8,11 @@ use boundary::way::{copy, length, COPIES, LENGTHS};
 use boundary::{code, read, refusal, Given, Operation};
 use reference::generate::{self, Random, SHAPES};
 
-/// How many codebooks of an s and p are drawn; those of s 6 take long.
+/// How many codebooks of an s and p are drawn; those of many places take
+/// long.
 fn books(s: u8) -> u32 {
     match s {
-        6 => 12,
+        6.. => 12,
         5 => 30,
         _ => 60,
     }
@@ -28,7 +29,7 @@ fn input(operation: Operation, book: &Book, random: &mut Random) -> Vec<u8> {
     };
     match random.below(8) {
         0 => generate::wrong_length(right, q, random),
-        1 => draw::bytes(random.between(0, 70), random),
+        1 => draw::bytes(random.between(0, book.n() + 7), random),
         2 => generate::bad_symbol(right, q, random),
         3 => vec![0; right.len()],
         4 => generate::arbitrary(right.len(), q, random),
@@ -44,23 +45,13 @@ fn input(operation: Operation, book: &Book, random: &mut Random) -> Vec<u8> {
     }
 }
 
-/// The exact size of the operation's output.
-fn exact(operation: Operation, book: &Book) -> usize {
-    match operation {
-        Operation::Read => book.parts.k(),
-        Operation::Remainder => book.parts.n() - book.parts.k(),
-        _ => book.parts.n(),
-    }
-}
-
 /// In which way a codebook that 8 refuses has a copy.
 fn sort_of_copy(book: &Book, damaged: &[u8]) -> &'static str {
-    copy(book.parts.field(), book.parts.n(), damaged).expect("a copy")
+    copy(book, damaged).expect("a copy")
 }
 
 /// Counts a call by its result, and by what was refused.
 fn count(trial: &Trial, given: &Given, book: &Book, tally: &mut Tally) {
-    let (s, p) = (book.parts.s(), book.parts.field().p());
     let (number, size) = (refusal(given.result), trial.held.len());
     tally.tried();
     tally.count("result", number);
@@ -73,11 +64,11 @@ fn count(trial: &Trial, given: &Given, book: &Book, tally: &mut Tally) {
         tally.count("remainder", if zero { "zero" } else { "not zero" });
     }
     match number {
-        0 => tally.count("accepted, s and p", format!("{s} {p}")),
+        0 => tally.count("accepted, s and p", book.shape()),
         8 => tally.count("copy", sort_of_copy(book, trial.book)),
         9 if trial.input.is_empty() => tally.count("input", "empty"),
         10 if size == 0 => tally.count("output", "empty"),
-        10 if size < exact(trial.operation, book) => tally.count("output", "short"),
+        10 if size < trial.operation.exact(&book.parts) => tally.count("output", "short"),
         10 => tally.count("output", "long"),
         _ => {}
     }
@@ -90,7 +81,7 @@ fn calls(operation: Operation, test: u8, tally: &mut Tally) {
             let seed = draw::seed(test, s, p, trial);
             let mut random = Random::new(seed);
             let book = Book::any(s, p, &mut random);
-            let exact = exact(operation, &book);
+            let exact = operation.exact(&book.parts);
             for fault in (0..=8).chain([0; 16]) {
                 let mut bytes = book.bytes.clone();
                 generate::damage(&mut bytes, fault, &mut random);

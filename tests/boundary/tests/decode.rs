@@ -33,11 +33,12 @@ fn compared(seed: u64, book: &Book, received: &[u8], held: &[u8], tally: &mut Ta
     }
     if kind == 'M' {
         tally.count("changed of M", end(changed(result).into(), n, "n"));
+        tally.count("digits of changed", changed(result).to_string().len());
     }
     tally.count("I", end(i.into(), 63, "63"));
     tally.count("D", end(d.into(), n, "n"));
     tally.count("L", end(parts.l(), 32, "32"));
-    tally.count("s and p", format!("{} {}", parts.s(), parts.field().p()));
+    tally.count("s and p", book.shape());
     result
 }
 
@@ -162,6 +163,45 @@ fn words_of_s_6() {
 }
 
 #[test]
+fn words_of_s_7_and_8() {
+    let names = generate::long_shapes().map(|(s, p)| format!("{s} {p}"));
+    let mut tally = due(Tally::new("decode, s 7 and 8"))
+        .due("s and p", names)
+        .due("digits of changed", [1, 2, 3]);
+    for (s, p) in generate::long_shapes() {
+        let extent = Extent {
+            books: 400,
+            decode: 1_000_000,
+            all: 600_000_000,
+        };
+        drawn_words(6, s, p, &extent, &mut tally);
+    }
+    tally.finish(1);
+}
+
+/// A word with one error, on both sides.
+fn one_error(seed: u64, book: &Book, random: &mut Random, tally: &mut Tally) {
+    let received = generate::damaged_code_word(&book.parts, 1, random);
+    let held = draw::bytes(received.len(), random);
+    compared(seed, book, &received, &held, tally);
+}
+
+#[test]
+fn the_largest_column_of_all() {
+    let mut tally = Tally::new("decode, a column of 8160").due("s and p", ["8 4"]);
+    let book = Book::new(books::long("n255p4_whole"));
+    assert_eq!(book.parts.l() * book.parts.weight(), 8160);
+    let seed = draw::seed(7, 8, 4, 0);
+    one_error(
+        seed,
+        &book.with(32, 1, 4),
+        &mut Random::new(seed),
+        &mut tally,
+    );
+    tally.finish(1);
+}
+
+#[test]
 fn the_largest_columns() {
     let mut tally = Tally::new("decode, the largest columns")
         .due("kind", ['M'])
@@ -178,10 +218,7 @@ fn the_largest_columns() {
                 _ => "256 or more",
             };
             tally.count("L times weight", column);
-            let book = book.with(l, 1, 1);
-            let received = generate::damaged_code_word(&book.parts, 1, &mut random);
-            let held = draw::bytes(received.len(), &mut random);
-            compared(seed, &book, &received, &held, &mut tally);
+            one_error(seed, &book.with(l, 1, 1), &mut random, &mut tally);
         }
     }
     tally.finish(5);
@@ -222,7 +259,7 @@ fn refusals() {
     for (s, p) in SHAPES {
         let mut random = Random::new(draw::seed(5, s, p, u32::MAX));
         let shelf = Shelf::new(s, p, 30, &mut random);
-        for trial in 0..if s == 6 { 8 } else { 30 } {
+        for trial in 0..if s >= 6 { 8 } else { 30 } {
             let seed = draw::seed(5, s, p, trial);
             let mut random = Random::new(seed);
             let book = shelf.take(1 + random.below(4), 500_000, &mut random);
@@ -231,7 +268,7 @@ fn refusals() {
                 let mut damaged = book.clone();
                 generate::damage(&mut damaged.bytes, fault, &mut random);
                 if fault == 8 {
-                    let copy = copy(book.parts.field(), n, &damaged.bytes);
+                    let copy = copy(&book, &damaged.bytes);
                     tally.count("copy", copy.expect("a copy"));
                 }
                 let right = generate::damaged_code_word(&book.parts, 1, &mut random);

@@ -9,12 +9,12 @@ use boundary::tally::Tally;
 use boundary::way::{length, LENGTHS};
 use boundary::{code, read, refusal, Operation};
 use reference::generate::{self, Random, SHAPES};
-use reference::packed;
 
 /// How many codebooks of an s and p are drawn; those of many places take
 /// long, and have the more lengths.
 fn books(s: u8) -> u32 {
     match s {
+        7.. => 8,
         5 | 6 => 100,
         _ => 200,
     }
@@ -53,12 +53,13 @@ impl Trials<'_> {
         let held = draw::bytes(size, &mut self.random);
         let trial = self.trial(Operation::Code, message, &held);
         let mut output = held.clone();
-        let result = packed::pack_done(self.book.parts.code(message, &mut output));
+        let result = Operation::Code.opened(&self.book.parts, message, &mut output);
         let given = trial.against(result, &output);
         assert!(refusal(given.result) == number, "{trial}");
         let k = self.book.parts.k();
         let sort = length(k, message);
         self.tally.tried();
+        self.tally.count("s and p", self.book.shape());
         self.tally.count("way", format!("{number} {sort}"));
         if k == 1 {
             let symbols = ["0", "1", "2", "more"][message.len().min(3)];
@@ -70,8 +71,8 @@ impl Trials<'_> {
     /// Every length to k + 1, and some far above.
     fn every_length(&mut self) {
         let (n, k) = (self.book.parts.n(), self.book.parts.k());
-        let any = self.random.between(k + 2, 300);
-        for length in (0..=k + 1).chain([k + 2, n, n + 1, 64, 200, any]) {
+        let any = self.random.between(k + 2, n + 300);
+        for length in (0..=k + 1).chain([k + 2, n, n + 1, n + 64, any]) {
             let message = generate::arbitrary(length, self.book.parts.q(), &mut self.random);
             match (1..=k).contains(&length) {
                 true => self.coded(&message),
@@ -169,7 +170,6 @@ fn every_length_is_the_references() {
                 _ => "between",
             };
             tally.count("k", end);
-            tally.count("s and p", format!("{s} {p}"));
             let tally = &mut tally;
             Trials {
                 seed,

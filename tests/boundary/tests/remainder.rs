@@ -10,10 +10,11 @@ use boundary::{code, decode, guarded, kind, read, refusal, Operation};
 use reference::generate::{self, Random, SHAPES};
 use reference::word;
 
-/// How many codebooks of an s and p are drawn; those of s 6 take long.
+/// How many codebooks of an s and p are drawn; those of many places take
+/// long.
 fn books(s: u8) -> u32 {
     match s {
-        6 => 12,
+        6.. => 12,
         5 => 30,
         _ => 60,
     }

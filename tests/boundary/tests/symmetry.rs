@@ -75,8 +75,7 @@ impl Quadruple {
         if rounds(first) >= 2 {
             tally.count("2 rounds or more", kind(first));
         }
-        let (s, field) = (self.book.parts.s(), self.book.parts.field());
-        tally.count("s and p", format!("{s} {}", field.p()));
+        tally.count("s and p", self.book.shape());
         tally.count("t", if self.t < n { "below n" } else { "n or more" });
         tally.count("c", if self.c == 1 { "1" } else { "2 or more" });
         let still = word::weight(&self.v) == 0;
@@ -143,6 +142,16 @@ fn demand_3_for_s_6() {
     let mut tally = due("symmetry, s 6").due("s and p", names);
     for &(s, p) in shapes {
         quadruples(s, p, 300, 25_000_000, &mut tally);
+    }
+    tally.finish(1);
+}
+
+#[test]
+fn demand_3_for_s_7_and_8() {
+    let names = generate::long_shapes().map(|(s, p)| format!("{s} {p}"));
+    let mut tally = due("symmetry, s 7 and 8").due("s and p", names);
+    for (s, p) in generate::long_shapes() {
+        quadruples(s, p, 400, 400_000_000, &mut tally);
     }
     tally.finish(1);
 }

@@ -1,5 +1,7 @@
 //! Books A, B and C of the scope, and how a book is written down.
 
+use crate::form::Form;
+
 /// Symbols as the scope prints them, one decimal digit each; other
 /// characters are left out.
 pub fn symbols(digits: &str) -> Vec<u8> {
@@ -10,20 +12,23 @@ pub fn symbols(digits: &str) -> Vec<u8> {
         .collect()
 }
 
-/// The records in their order, the bodies filled up with zeros to 63 bytes.
+/// The records in their order, in the form that has the s, the bodies filled
+/// up with zeros.
 pub fn write(s: u8, p: u8, g: &[u8], i: u8, d: u8, dual_words: &[Vec<u8>]) -> Vec<u8> {
-    let mut book = vec![1, s, p, 2];
-    book.extend(body(g));
+    let form = Form::with_size(s);
+    let mut book = vec![1, s, p, form.generator];
+    book.extend(body(form, g));
     book.extend([3, i, d]);
     for dual_word in dual_words {
-        book.push(4);
-        book.extend(body(dual_word));
+        book.push(form.dual_word);
+        book.extend(body(form, dual_word));
     }
     book
 }
 
-fn body(word: &[u8]) -> impl Iterator<Item = u8> + '_ {
-    word.iter().copied().chain(std::iter::repeat(0)).take(63)
+fn body<'a>(form: &Form, word: &'a [u8]) -> impl Iterator<Item = u8> + 'a {
+    let zeros = std::iter::repeat(0);
+    word.iter().copied().chain(zeros).take(form.width)
 }
 
 /// "Book A: s 3, p 1, g 1101, I 3, D 1, dual word 1110100", with another D.
@@ -49,4 +54,32 @@ pub fn c_with(d: u8) -> Vec<u8> {
 /// Book C.
 pub fn c() -> Vec<u8> {
     c_with(2)
+}
+
+/// The stored codebooks of the long form, by name; `tests/find_long_books.py`
+/// says how they were found.
+pub const LONG: [(&str, &[u8]); 8] = [
+    ("n127p1", include_bytes!("../../books/n127p1.book")),
+    (
+        "n127p1_high",
+        include_bytes!("../../books/n127p1_high.book"),
+    ),
+    ("n255p1", include_bytes!("../../books/n255p1.book")),
+    (
+        "n255p1_lines",
+        include_bytes!("../../books/n255p1_lines.book"),
+    ),
+    ("n255p2", include_bytes!("../../books/n255p2.book")),
+    ("n255p2_two", include_bytes!("../../books/n255p2_two.book")),
+    ("n255p4", include_bytes!("../../books/n255p4.book")),
+    (
+        "n255p4_whole",
+        include_bytes!("../../books/n255p4_whole.book"),
+    ),
+];
+
+/// A stored codebook of the long form.
+pub fn long(name: &str) -> Vec<u8> {
+    let found = LONG.iter().find(|(known, _)| *known == name);
+    found.map_or(Vec::new(), |(_, book)| book.to_vec())
 }

@@ -2,6 +2,7 @@
 //! "What the coder declines, in order").
 
 use crate::field::Field;
+use crate::form::Form;
 use crate::records::{Records, Shape};
 use crate::refuse;
 use crate::word;
@@ -9,6 +10,7 @@ use crate::word;
 /// An accepted codebook: "none of the conditions 1 to 8 holds for it".
 #[derive(Clone, Debug, PartialEq, Eq)]
 pub struct Codebook {
+    form: &'static Form,
     shape: Shape,
     generator: Vec<u8>,
     degree: usize,
@@ -18,6 +20,10 @@ pub struct Codebook {
 }
 
 impl Codebook {
+    pub fn form(&self) -> &'static Form {
+        self.form
+    }
+
     pub fn s(&self) -> u8 {
         self.shape.s
     }
@@ -79,10 +85,10 @@ impl Codebook {
 
 /// Check: every condition in the table's order, the first to apply returned.
 pub fn check(book: &[u8]) -> Result<Codebook, u8> {
-    refuse(1, wrong_length(book))?;
-    let records = Records::split(book).ok_or(1)?;
-    refuse(2, wrong_kind(&records))?;
-    let shape = Shape::new(records.s, records.p).ok_or(3)?;
+    let form = Form::of(book)?;
+    let records = Records::split(form, book).ok_or(1)?;
+    refuse(2, wrong_kind(form, &records))?;
+    let shape = Shape::new(form, records.s, records.p).ok_or(3)?;
     refuse(4, wrong_place(&records, &shape))?;
     refuse(5, wrong_generator(&records, &shape))?;
     refuse(6, wrong_limit(&records, &shape))?;
@@ -90,6 +96,7 @@ pub fn check(book: &[u8]) -> Result<Codebook, u8> {
     refuse(8, alike_dual_words(&records, &shape))?;
     let generator = shape.word(records.generator);
     Ok(Codebook {
+        form,
         generator: generator.to_vec(),
         degree: word::degree(generator).ok_or(5)?,
         most_rounds: records.most_rounds,
@@ -99,14 +106,11 @@ pub fn check(book: &[u8]) -> Result<Codebook, u8> {
     })
 }
 
-/// Condition 1: the length is not "70 + 64 x L", "L from 1 to 32".
-fn wrong_length(book: &[u8]) -> bool {
-    !(1..=32).any(|l| book.len() == 70 + 64 * l)
-}
-
 /// Condition 2: "a kind byte not as the order wants".
-fn wrong_kind(records: &Records) -> bool {
-    let order = [1, 2, 3].into_iter().chain(std::iter::repeat(4));
+fn wrong_kind(form: &Form, records: &Records) -> bool {
+    let order = [1, form.generator, 3]
+        .into_iter()
+        .chain(std::iter::repeat(form.dual_word));
     records
         .kinds
         .iter()

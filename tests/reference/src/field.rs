@@ -42,20 +42,9 @@ impl Field {
         a ^ b
     }
 
-    /// The product of the two polynomials, then "reduced by the polynomial
-    /// of p" from the highest power down.
+    /// The product of the two polynomials, "reduced by the polynomial of p".
     pub fn product(self, a: u8, b: u8) -> u8 {
-        let p = self.p;
-        let mut product = 0;
-        for power in 0..p {
-            let coefficient = u16::from(b) >> power & 1;
-            product ^= coefficient * (u16::from(a) << power);
-        }
-        for power in (p..=2 * p - 2).rev() {
-            let coefficient = product >> power & 1;
-            product ^= coefficient * (self.polynomial() << (power - p));
-        }
-        (product & 0xff) as u8
+        reduced_product(self.p, self.polynomial(), a, b)
     }
 
     /// "The symbol whose product with the given one is 1"; zero has none.
@@ -67,6 +56,21 @@ impl Field {
     pub fn admit(self, symbols: &[u8]) -> Result<(), u8> {
         refuse(11, symbols.iter().any(|&symbol| symbol >= self.q()))
     }
+}
+
+/// The product of two polynomials of degree below p, which is at most 8,
+/// reduced by one of degree p from the highest power down.
+pub(crate) fn reduced_product(p: u8, polynomial: u16, a: u8, b: u8) -> u8 {
+    let mut product = 0;
+    for power in 0..p {
+        let coefficient = u16::from(b) >> power & 1;
+        product ^= coefficient * (u16::from(a) << power);
+    }
+    for power in (p..=2 * p - 2).rev() {
+        let coefficient = product >> power & 1;
+        product ^= coefficient * (polynomial << (power - p));
+    }
+    (product & 0xff) as u8
 }
 
 /// The field operation sum.

@@ -19,8 +19,9 @@ use crate::books;
 use crate::field::Field;
 use crate::word;
 
-/// Every (s, p) with "s from 2 to 6, and p divides s".
-pub const SHAPES: [(u8, u8); 13] = [
+/// Every (s, p) with "s from 2 to 6, and p divides s", then "s 7 with p 1, and
+/// s 8 with p 1, 2 or 4".
+pub const SHAPES: [(u8, u8); 17] = [
     (2, 1),
     (2, 2),
     (3, 1),
@@ -34,7 +35,16 @@ pub const SHAPES: [(u8, u8); 13] = [
     (6, 2),
     (6, 3),
     (6, 6),
+    (7, 1),
+    (8, 1),
+    (8, 2),
+    (8, 4),
 ];
+
+/// Those of the long form.
+pub fn long_shapes() -> impl Iterator<Item = (u8, u8)> + Clone {
+    SHAPES.into_iter().filter(|(s, _)| *s > 6)
+}
 
 /// Which weight the dual words of a book are taken from.
 #[derive(Clone, Copy)]

@@ -8,6 +8,7 @@ pub mod codebook;
 pub mod coder;
 pub mod decode;
 pub mod field;
+pub mod form;
 pub mod generate;
 pub mod matrix;
 pub mod packed;

@@ -7,8 +7,8 @@ use crate::codebook::check;
 /// "At most 1000000 words are read."
 pub const MOST_WORDS: usize = 1_000_000;
 
-/// "A length above 2118 prints `R 1`."
-const MOST_BYTES: usize = 2118;
+/// "The program takes lengths to 8454"; one above prints `R 1`.
+const MOST_BYTES: usize = 8454;
 
 /// The whole run, from the length field to the end of input.
 pub fn run(input: &mut dyn Read, output: &mut dyn Write) {
@@ -64,7 +64,7 @@ struct Input<'a> {
 impl Input<'_> {
     /// "The codebook's length (two bytes, low first), the codebook." Refusal
     /// 1 for "a missing or short length field or codebook, or a length above
-    /// 2118".
+    /// 8454".
     fn book(&mut self) -> Result<Vec<u8>, u8> {
         let length = self.take(2);
         let &[low, high] = length.as_slice() else {

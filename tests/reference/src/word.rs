@@ -43,11 +43,12 @@ pub fn weight(word: &[u8]) -> usize {
     word.iter().filter(|&&symbol| symbol != 0).count()
 }
 
-/// "Products of words are taken modulo x^n - 1"; n is the length of `a`.
+/// "Products of words are taken modulo x^n - 1"; n is the length of `a`. A
+/// zero symbol of `a` would add nothing.
 pub fn product(field: Field, a: &[u8], b: &[u8]) -> Vec<u8> {
     let n = a.len();
     let mut product = vec![0; n];
-    for (i, &x) in a.iter().enumerate() {
+    for (i, &x) in a.iter().enumerate().filter(|(_, x)| **x != 0) {
         for (j, &y) in b.iter().enumerate() {
             let place = (i + j) % n;
             product[place] = field.sum(product[place], field.product(x, y));

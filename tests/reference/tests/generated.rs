@@ -5,6 +5,7 @@ use std::collections::{BTreeMap, BTreeSet};
 use reference::books::symbols;
 use reference::codebook::{check, Codebook};
 use reference::field::Field;
+use reference::form::LONG;
 use reference::generate::{self, damage, damage_all, Random, SHAPES};
 use reference::{coder, decode, matrix, stream, word};
 
@@ -41,7 +42,16 @@ fn generated_books_are_accepted_and_meet_the_ends() {
         assert!(n < 15 || seen["weight"].len() > 4);
         assert!(n < 15 || seen["degree"].len() > 4);
     }
-    for (s, p) in [(0, 1), (2, 0), (3, 2), (7, 1), (6, 4), (255, 255)] {
+    for (s, p) in [
+        (0, 1),
+        (2, 0),
+        (3, 2),
+        (7, 7),
+        (8, 8),
+        (9, 1),
+        (6, 4),
+        (255, 255),
+    ] {
         assert_eq!(generate::book(s, p, &mut Random::new(1)), Err(3));
     }
 }
@@ -126,8 +136,11 @@ fn of_several_faults_the_smallest_is_found() {
 }
 
 /// All the ways in which a book can be damaged.
-const WAYS: [&str; 37] = [
+const WAYS: [&str; 40] = [
+    "1 byte 3 of the other form",
     "1 empty",
+    "1 fewer than 4 bytes",
+    "1 length of the other form",
     "1 long",
     "1 no records",
     "1 odd",
@@ -192,8 +205,11 @@ fn way(fault: u8, l: usize, book: &[u8]) -> String {
     match fault {
         1 => match book.len() {
             0 => "empty",
+            1..4 => "fewer than 4 bytes",
             70 => "no records",
-            1..134 => "short",
+            _ if book[3] == 5 => "byte 3 of the other form",
+            length if LONG.count(length).is_some() => "length of the other form",
+            4..134 => "short",
             2119.. => "long",
             _ => "odd",
         },
@@ -372,8 +388,8 @@ fn any_bytes_are_answered() {
     for _ in 0..5_000 {
         let bytes = any_bytes(&mut random);
         let number = check(&bytes).err();
-        let input = generate::arbitrary(random.between(0, 70), 255, &mut random);
-        let mut word = vec![0; random.between(0, 70)];
+        let input = generate::arbitrary(random.between(0, 130), 255, &mut random);
+        let mut word = vec![0; random.between(0, 130)];
         let mut entries = vec![0; random.between(0, 200)];
         let answers = [
             coder::code(&bytes, &input, &mut word).err(),
@@ -402,10 +418,10 @@ fn any_bytes_are_answered() {
 /// A small book with a few bytes changed, or no book at all.
 fn any_bytes(random: &mut Random) -> Vec<u8> {
     if random.once_in(8) {
-        let length = *random.pick(&[0, 5, 133, 134, 198, 2118, 3000]);
+        let length = *random.pick(&[0, 5, 133, 134, 198, 518, 2118, 2310, 3000]);
         return (0..length).map(|_| random.byte()).collect();
     }
-    let (s, p) = *random.pick(&[(2, 1), (2, 2), (3, 1), (3, 3)]);
+    let (s, p) = *random.pick(&[(2, 1), (2, 2), (3, 1), (3, 3), (7, 1)]);
     let mut book = generate::book(s, p, random).expect("a shape");
     for _ in 0..random.between(0, 3) {
         let place = random.below(book.len().min(80));

@@ -87,6 +87,32 @@ fn two_digits_a_symbol_and_decimal_numbers() {
     assert_eq!(lines.next(), None);
 }
 
+/// One symbol in all n places; the sum of all symbols, as g is x + 1, is the
+/// one check value there is, and all places are changed by it.
+fn all_changed(s: u8, p: u8, error: u8) -> (Vec<u8>, String) {
+    let n = (1 << s) - 1;
+    let book = books::write(s, p, &[1, 1], 12, n as u8, &[vec![1; n]]);
+    let mut input = input(&book, &[]);
+    input.extend((0..n).map(|j| if j == 100 { error } else { 0 }));
+    input.extend(vec![0; n - 1]);
+    let digits = |j| if j == 100 { 0 } else { error };
+    let answer: String = (0..n).map(|j| format!("{:02x}", digits(j))).collect();
+    (input, format!("M 1 {n} {answer}\nR 9\n"))
+}
+
+#[test]
+fn long_words_and_three_digits() {
+    for (s, p, error) in [(7, 1, 1), (8, 1, 1), (8, 2, 3), (8, 4, 13)] {
+        let (input, lines) = all_changed(s, p, error);
+        assert_eq!(printed(&input), lines);
+    }
+    let (input, lines) = all_changed(8, 4, 15);
+    assert!(lines.starts_with("M 1 255 0f0f"));
+    assert_eq!(lines.lines().next().map(str::len), Some(8 + 510));
+    // The length field: 518, a length of both forms.
+    assert_eq!(input[..2], [6, 2]);
+}
+
 #[test]
 fn no_words_print_nothing() {
     assert_eq!(printed(&input(&books::a(), &[])), "");
@@ -111,7 +137,10 @@ fn a_missing_or_short_codebook() {
 
 #[test]
 fn a_length_of_no_codebook() {
-    for length in [0u16, 1, 70, 133, 135, 2117, 2119, 2182, 32768, 65535] {
+    let lengths = [
+        0u16, 1, 70, 133, 135, 2117, 2119, 2182, 8453, 8455, 32768, 65535,
+    ];
+    for length in lengths {
         let mut input = length.to_le_bytes().to_vec();
         input.extend(books::a());
         input.resize(70_000, 0);
@@ -120,14 +149,16 @@ fn a_length_of_no_codebook() {
 }
 
 #[test]
-fn a_length_above_2118_with_records_to_fill_it() {
-    let mut book = books::a();
-    while book.len() < 70 + 64 * 33 {
-        book.extend_from_within(70..134);
+fn a_length_above_the_most_with_records_to_fill_it() {
+    for (mut book, record) in [(books::a(), 64), (books::long("n255p1"), 256)] {
+        let one = book.len();
+        while book.len() < one + 32 * record {
+            book.extend_from_within(one - record..one);
+        }
+        assert_eq!(printed(&input(&book, &EXAMPLE)), "R 1\n");
+        book.truncate(one + 31 * record);
+        assert_eq!(printed(&input(&book, &EXAMPLE)), "R 8\n");
     }
-    assert_eq!(printed(&input(&book, &EXAMPLE)), "R 1\n");
-    book.truncate(2118);
-    assert_eq!(printed(&input(&book, &EXAMPLE)), "R 8\n");
 }
 
 #[test]

@@ -104,8 +104,10 @@ fn row_2_kind_bytes() {
     for at in [0, 3, 67, 70, 134, 198, 262] {
         for kind in [0, 1, 2, 3, 4, 5, 255] {
             let book = set(with_four(), at, kind);
+            // Byte 3 of the long form, which has no book of 326 bytes.
+            let number = if (at, kind) == (3, 5) { 1 } else { 2 };
             if book != with_four() {
-                refused_book(&book, 2);
+                refused_book(&book, number);
             }
         }
     }

@@ -140,7 +140,7 @@ fn every_length_for_generated_codebooks() {
             let bytes = generate::book(s, p, &mut random).expect("a shape");
             let book = check(&bytes).expect("accepted");
             let (n, k) = (book.n(), book.k());
-            for length in (0..=k + 1).chain([k + 2, n, n + 1, 64, 200]) {
+            for length in (0..=k + 1).chain([k + 2, n, n + 1, n + 64, n + 200]) {
                 let message = generate::arbitrary(length, book.q(), &mut random);
                 if length == 0 || length > k {
                     assert_eq!(code(&book, &message), Err(9), "{length} of {k}");

@@ -1,13 +1,13 @@
 -- `book::matrix_size` meets its contract: what cannot be read so far is not accepted.
 -- Assumes nothing.
-use Prim.Native.Nat.{_^_, _≤_}
-use native.Mathlib.Nat.{mul-le-mul}
+use mathlib.Core.Path.{ap₂, _∙_}
+use Prim.Native.Nat.{_*_, _^_}
 use native.Mathlib.Omega.{arith}
-use lib.Pow.{pow-mono}
-use Rattle.spec_book.specs.Layout.{symbolDigits}
+use Rattle.spec_book.specs.Layout.{isLong, symbolDigits, wordLength}
 use Rattle.spec_book.proofs.Accepting.{sizes}
-use Rattle.book_records.proofs.Tested.{readable, exponent-high}
-use Rattle.book.proofs.Rooms.{matrix-fits, no-matrix}
+use Rattle.book_records.proofs.Tested.{readable}
+use Rattle.book.specs.Opened.{MatrixSize}
+use Rattle.book.proofs.Rooms.{exponent-le, digits-le, exponent-most, digits-most, matrix-sized, no-matrix}
 use borrow.Author.Needs.{needs}
 use Rattle.book.proofs.matrix_size.Statement.{statement}
 use Rattle.book.proofs.matrix_size.Tie as tie
@@ -21,36 +21,43 @@ shared-slice-read-s c = search needs
 shared-slice-read-p : tie.Need-shared-slice-read-p
 shared-slice-read-p c = search needs
 
+most-exponent-requires : tie.Need-most-exponent-requires
+most-exponent-requires c κs = search needs
+
 returns-2 : tie.Need-returns-2
-returns-2 c = no-matrix _ (λ e. omega (arith, exponent-high _ (readable _ e .sizes), c .if2 .taken))
+returns-2 c = no-matrix _ (λ e. omega (arith, exponent-most _ (readable _ e .sizes), c .before .most-exponent .ensures, c .if2 .taken))
+
+most-digits-requires : tie.Need-most-digits-requires
+most-digits-requires c κs = search needs
 
 returns-3 : tie.Need-returns-3
-returns-3 c = no-matrix _ (λ e. omega (arith, sizes _ (readable _ e .sizes) .p-high, c .if3 .taken))
+returns-3 c = no-matrix _ (λ e. omega (arith, digits-most _ (sizes _ (readable _ e .sizes)), c .before .most-digits .ensures, c .if3 .taken))
 
 order-requires : tie.Need-order-requires
-order-requires c κs = search needs
+order-requires c κs = omega (arith, c .if3 .left, c .before .most-digits .ensures, digits-le (isLong (c .before .before .before .before .before .before .before .before .args .book .now)))
 
 wide-requires : tie.Need-wide-requires
 wide-requires c κs = search needs
 
 word-length-requires : tie.Need-word-length-requires
-word-length-requires c κs = search needs
+word-length-requires c κs =
+    let x = c .before .before .before .before in
+    omega (arith, x .if2 .left, x .before .most-exponent .ensures, exponent-le (isLong (x .before .before .before .before .before .before .args .book .now)))
+
+sized : (c : tie.After-word-length) → let bytes = c .before .before .before .before .before .before .before .before .before .before .before .args .book .now in MatrixSize bytes (2 ^ symbolDigits bytes * wordLength bytes)
+sized c =
+    let d = c .before .before .before .before in
+    let x = d .before .before in
+    matrix-sized (c .before .before .before .before .before .before .before .before .before .before .before .args .book .now) (omega (arith, x .most-exponent .ensures, d .before .if2 .left))
+    (omega (arith, d .most-digits .ensures, c .before .before .before .if3 .left))
 
 mul-result : tie.Need-mul-result
 mul-result c =
-    let q = c .before .wide in
-    let s = c .before .before .before in
-    let p = symbolDigits (s .before .before .before .before .before .before .args .book .now) in
-    let rows : 2 ^ p ≤ 2 ^ 6 = pow-mono (s .if3 .left) in
-    let few : q .result ≤ 64 = omega (arith, q .ensures, c .before .before .order .ensures) in
-    omega (arith, mul-le-mul few (c .word-length .ensures .1))
+    let size = sized c in
+    omega (arith, size .most, ap₂ _*_ (c .before .wide .ensures ∙ c .before .before .order .ensures) (c .word-length .ensures .0))
 
 returns-4 : tie.Need-returns-4
-returns-4 c =
-    let q = c .before in
-    let s = q .before .before in
-    rw (q .wide .ensures, q .before .order .ensures, c .word-length .ensures .0)
-    (matrix-fits (s .before .before .before .before .before .before .args .book .now) (s .if3 .left) (omega (arith, c .word-length .ensures)))
+returns-4 c = rw (c .before .wide .ensures, c .before .before .order .ensures, c .word-length .ensures .0) (sized c)
 
 pub matrix-size-spec : {M : Type 1} → statement M
 matrix-size-spec =
@@ -59,7 +66,9 @@ matrix-size-spec =
     returns
     shared-slice-read-s
     shared-slice-read-p
+    most-exponent-requires
     returns-2
+    most-digits-requires
     returns-3
     order-requires
     wide-requires

@@ -21,7 +21,7 @@ open-readable-requires : tie.Need-open-readable-requires
 open-readable-requires c κs =
     let s = c .before .before in
     let r = readable-records _ (sym (s .refusal .ensures) ∙ c .before .if1 .left) in
-    (r, le-trans (room-fits _ (sizes _ (r .sizes) .p-high)) (s .before .before .before .pre))
+    (r, le-trans (room-fits _ (sizes _ (r .sizes))) (s .before .before .before .pre))
 
 same-length : tie.Need-same-length
 same-length c = search needs

@@ -2,7 +2,6 @@
 -- Assumes nothing.
 use mathlib.Core.Path.{sym, _∙_}
 use native.Mathlib.Omega.{arith}
-use Rattle.word_table.proofs.Tables.{table-fits}
 use Rattle.book_alike.proofs.Differing.{all-once, no-pair}
 use borrow.Author.Needs.{needs}
 use Rattle.book_alike.proofs.distinct_ok.Statement.{statement}
@@ -12,7 +11,10 @@ returns : tie.Need-returns
 returns c = no-pair _ _ _ (c .if1 .taken)
 
 signatures-requires : tie.Need-signatures-requires
-signatures-requires c κs = search needs
+signatures-requires c κs =
+    let s = c .before .before .pre in
+    let h = s .tested in
+    record { n-low = h .sizes .n-low; n-high = h .sizes .n-high; most = s .most; room = h .room; spanned = h .spanned }
 
 slice-aggregate-all-differ : tie.Need-slice-aggregate-all-differ
 slice-aggregate-all-differ c = search needs
@@ -39,7 +41,7 @@ pairs-ok-requires c κs =
     let room = c .before .before in
     let signed = room .before .before .before .before in
     let start = signed .before .before .before in
-    (start .pre, signed .signatures .ensures, omega (arith, table-fits 128 6 (start .args .p) (start .pre .tested .sizes .p-high), room .table-room .ensures))
+    (start .pre, signed .signatures .ensures, omega (arith, start .pre .tested .sizes .together, room .table-room .ensures))
 
 returns-3 : tie.Need-returns-3
 returns-3 c = search needs

@@ -25,4 +25,6 @@ returns-2 : tie.Need-returns-2
 returns-2 c = search needs
 
 pub products-vanish-spec : {M : Type 1} → statement M
-products-vanish-spec = tie.close (tie.spec few-requires products-vanish-requires products-vanish-requires-2 returns returns-2)
+products-vanish-spec =
+    tie.close
+    (tie.spec few-requires products-vanish-requires products-vanish-requires-2 returns returns-2)

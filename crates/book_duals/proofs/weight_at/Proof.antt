@@ -1,46 +1,47 @@
--- `book_duals::weight_at` meets its contract. The invariant: `count` is the number of nonzero bytes below place j.
+-- `book_duals::weight_at` meets its contract. The invariant: `count` is the number of nonzero bytes in b blocks.
 -- Assumes nothing.
-use Prim.Native.Nat.{_+_, _-_}
+use Prim.Native.Nat.{_-_}
 use native.Mathlib.Omega.{arith}
-use Rattle.spec_word.specs.Word.{nonzero}
-use Rattle.word_array.specs.Stored.{place}
-use Rattle.word_array.proofs.Counted.{Counted, counted-none, counted-more, counted-byte, counted-end}
+use Rattle.book_duals.proofs.Weights.{Weighed, weighed-none, weighed-le, weighed-more, weighed-end}
 use borrow.Author.Needs.{needs}
 use Rattle.book_duals.proofs.weight_at.Statement.{statement}
 use Rattle.book_duals.proofs.weight_at.Tie as tie
 
 abbrev Inv-loop : tie.InvT-loop
-Inv-loop book start count₀ j₀ count j = Counted 63 (λ j. nonzero (place book (start + j))) j count
+Inv-loop blocks book start count₀ b₀ count b = Weighed book start blocks b count
 
 abbrev μ-loop : tie.MeasureT-loop
-μ-loop book start count₀ j₀ count j = 63 - j
+μ-loop blocks book start count₀ b₀ count b = blocks - b
 
 loop-holds : tie.Need-loop-holds Inv-loop μ-loop
-loop-holds c = counted-none _ _
+loop-holds c = weighed-none _ _ _
 
-add-count : tie.Need-add-count Inv-loop μ-loop
-add-count c = search needs
+mul-weight-block : tie.Need-mul-weight-block Inv-loop μ-loop
+mul-weight-block c = search needs
 
-shared-slice-read-count : tie.Need-shared-slice-read-count Inv-loop μ-loop
-shared-slice-read-count c = search needs
+add-weight-block : tie.Need-add-weight-block Inv-loop μ-loop
+add-weight-block c = search needs
+
+weight-block-requires : tie.Need-weight-block-requires Inv-loop μ-loop
+weight-block-requires c κs = search needs
 
 cast-count : tie.Need-cast-count Inv-loop μ-loop
 cast-count c = search needs
 
-add-count-2 : tie.Need-add-count-2 Inv-loop μ-loop
-add-count-2 c = search (needs, counted-byte (c .before .before .loop .inv))
+add-count : tie.Need-add-count Inv-loop μ-loop
+add-count c = search (needs, weighed-le (c .before .before .loop .inv))
 
-add-j : tie.Need-add-j Inv-loop μ-loop
-add-j c = search needs
+add-b : tie.Need-add-b Inv-loop μ-loop
+add-b c = search needs
 
 loop-less : tie.Need-loop-less Inv-loop μ-loop
 loop-less c = search needs
 
 loop-again : tie.Need-loop-again Inv-loop μ-loop
-loop-again c = counted-more (c .before .before .loop .inv) (omega arith)
+loop-again c = weighed-more (c .before .before .loop .inv) (omega arith) (c .weight-block .ensures .0)
 
 returns : tie.Need-returns Inv-loop μ-loop
-returns c = counted-end (c .before .loop .inv) (omega arith) .0
+returns c = weighed-end (c .before .loop .inv) (omega arith)
 
 pub weight-at-spec : {M : Type 1} → statement M
 weight-at-spec =
@@ -49,11 +50,12 @@ weight-at-spec =
     Inv-loop
     μ-loop
     loop-holds
-    add-count
-    shared-slice-read-count
+    mul-weight-block
+    add-weight-block
+    weight-block-requires
     cast-count
-    add-count-2
-    add-j
+    add-count
+    add-b
     loop-less
     loop-again
     returns)

@@ -1,54 +1,38 @@
--- `book_records::body_ok` meets its contract. The invariant: `bad` is the number of places below j that are not below their bound.
+-- `book_records::body_ok` meets its contract. The invariant: `ok` says whether the places of the first b blocks are below their bounds.
 -- Assumes nothing.
 use Prim.Native.Nat.{_-_}
 use native.Mathlib.Omega.{arith}
-use lib.Dec.{leb}
-use Rattle.word_array.specs.Stored.{place}
-use Rattle.word_array.proofs.Counted.{Counted, counted-none, counted-more, counted-byte, counted-end}
-use Rattle.spec_book.specs.Layout.{bodyPlace}
-use Rattle.book_records.proofs.Bounded.{none-above}
+use Rattle.book_records.proofs.Bounded.{Bounded, bounded-none, bounded-more, bounded-end, bounds-room}
 use borrow.Author.Needs.{needs}
 use Rattle.book_records.proofs.body_ok.Statement.{statement}
 use Rattle.book_records.proofs.body_ok.Tie as tie
 
 abbrev Inv-loop : tie.InvT-loop
-Inv-loop book start bounds bad₀ j₀ bad j = Counted 63 (λ j. leb (place bounds j) (bodyPlace book start j)) j bad
+Inv-loop blocks bounds book start ok₀ b₀ ok b = Bounded book bounds start blocks b ok
 
 abbrev μ-loop : tie.MeasureT-loop
-μ-loop book start bounds bad₀ j₀ bad j = 63 - j
+μ-loop blocks bounds book start ok₀ b₀ ok b = blocks - b
 
 loop-holds : tie.Need-loop-holds Inv-loop μ-loop
-loop-holds c = counted-none _ _
+loop-holds c = bounded-none _ _ _ _
 
-array-read-bad : tie.Need-array-read-bad Inv-loop μ-loop
-array-read-bad c = search needs
+mul-block-ok : tie.Need-mul-block-ok Inv-loop μ-loop
+mul-block-ok c = let h = c .before .before .before .pre in search (needs, bounds-room (h .1))
 
-add-bad : tie.Need-add-bad Inv-loop μ-loop
-add-bad c = search needs
+block-ok-requires : tie.Need-block-ok-requires Inv-loop μ-loop
+block-ok-requires c κs = let h = c .before .before .before .pre in search (needs, bounds-room (h .1))
 
-add-bad-2 : tie.Need-add-bad-2 Inv-loop μ-loop
-add-bad-2 c = search needs
-
-shared-slice-read-bad : tie.Need-shared-slice-read-bad Inv-loop μ-loop
-shared-slice-read-bad c = search needs
-
-cast-bad : tie.Need-cast-bad Inv-loop μ-loop
-cast-bad c = search needs
-
-add-bad-3 : tie.Need-add-bad-3 Inv-loop μ-loop
-add-bad-3 c = search (needs, counted-byte (c .before .before .loop .inv))
-
-add-j : tie.Need-add-j Inv-loop μ-loop
-add-j c = search needs
+add-b : tie.Need-add-b Inv-loop μ-loop
+add-b c = search needs
 
 loop-less : tie.Need-loop-less Inv-loop μ-loop
 loop-less c = search needs
 
 loop-again : tie.Need-loop-again Inv-loop μ-loop
-loop-again c = counted-more (c .before .before .loop .inv) (omega arith)
+loop-again c = bounded-more (c .before .before .loop .inv) (omega arith) (c .block-ok .ensures)
 
 returns : tie.Need-returns Inv-loop μ-loop
-returns c = none-above _ (c .before .before .pre .1) (counted-end (c .before .loop .inv) (omega arith) .0)
+returns c = let h = c .before .before .before .pre in bounded-end (c .before .loop .inv) (omega arith) (h .1) (h .0)
 
 pub body-ok-spec : {M : Type 1} → statement M
 body-ok-spec =
@@ -57,13 +41,9 @@ body-ok-spec =
     Inv-loop
     μ-loop
     loop-holds
-    array-read-bad
-    add-bad
-    add-bad-2
-    shared-slice-read-bad
-    cast-bad
-    add-bad-3
-    add-j
+    mul-block-ok
+    block-ok-requires
+    add-b
     loop-less
     loop-again
     returns)

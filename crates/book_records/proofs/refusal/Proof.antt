@@ -1,7 +1,8 @@
 -- `book_records::refusal` meets its contract: each return rewrites with the tests that led there.
 -- Assumes nothing.
+use Rattle.spec_book.proofs.Accepting.{own-length, whole}
 use Rattle.book_records.specs.Records.{recordsRefusal}
-use Rattle.book_records.proofs.Tested.{failed, passed, held, whole}
+use Rattle.book_records.proofs.Tested.{failed, passed, held}
 use borrow.Author.Needs.{needs}
 use Rattle.book_records.proofs.refusal.Statement.{statement}
 use Rattle.book_records.proofs.refusal.Tie as tie
@@ -14,7 +15,7 @@ unfolding recordsRefusal
 returns c = rw (failed (c .before .length-ok .ensures) (c .if1 .taken))
 
 kinds-ok-requires : tie.Need-kinds-ok-requires
-kinds-ok-requires c κs = whole _ (held (c .before .length-ok .ensures) (c .if1 .left))
+kinds-ok-requires c κs = held (c .before .length-ok .ensures) (c .if1 .left)
 
 returns-2 : tie.Need-returns-2
 unfolding recordsRefusal
@@ -23,7 +24,9 @@ returns-2 c =
     rw (passed (s .before .length-ok .ensures) (s .if1 .left), failed (c .before .kinds-ok .ensures) (c .if2 .taken))
 
 sizes-ok-requires : tie.Need-sizes-ok-requires
-sizes-ok-requires c κs = let s = c .before .before in whole _ (held (s .before .length-ok .ensures) (s .if1 .left))
+sizes-ok-requires c κs =
+    let s = c .before .before in
+    whole _ (own-length _ (held (s .before .length-ok .ensures) (s .if1 .left)) (held (c .before .kinds-ok .ensures) (c .if2 .left)))
 
 returns-3 : tie.Need-returns-3
 unfolding recordsRefusal
@@ -38,8 +41,10 @@ returns-3 c =
 
 symbols-ok-requires : tie.Need-symbols-ok-requires
 symbols-ok-requires c κs =
-    let s = c .before .before .before .before in
-    (whole _ (held (s .before .length-ok .ensures) (s .if1 .left)), held (c .before .sizes-ok .ensures) (c .if3 .left))
+    let t = c .before .before in
+    let s = t .before .before in
+    let k = held (t .before .kinds-ok .ensures) (t .if2 .left) in
+    (whole _ (own-length _ (held (s .before .length-ok .ensures) (s .if1 .left)) k), k, held (c .before .sizes-ok .ensures) (c .if3 .left))
 
 returns-4 : tie.Need-returns-4
 unfolding recordsRefusal

@@ -2,21 +2,14 @@
 -- Assumes nothing.
 use mathlib.Core.Path.{sym, _∙_}
 use borrow.Author.Needs.{needs}
-use Rattle.book.proofs.Rooms.{few-room, any-room}
 use Rattle.decode.proofs.decode.Statement.{statement}
 use Rattle.decode.proofs.decode.Tie as tie
 
-few-symbols-requires : tie.Need-few-symbols-requires
-few-symbols-requires c κs = search needs
+is-long-requires : tie.Need-is-long-requires
+is-long-requires c κs = search needs
 
-few-table-room-requires : tie.Need-few-table-room-requires
-few-table-room-requires c κs = search needs
-
-slice-aggregate-decode-by : tie.Need-slice-aggregate-decode-by
-slice-aggregate-decode-by c = search needs
-
-decode-by-requires : tie.Need-decode-by-requires
-decode-by-requires c κs = let made = c .before .before .before in few-room _ (sym (made .before .before .few-symbols .ensures) ∙ made .before .if1 .taken) (made .few-table-room .ensures)
+decode-long-requires : tie.Need-decode-long-requires
+decode-long-requires c κs = search needs
 
 same-length : tie.Need-same-length
 same-length c = search needs
@@ -25,16 +18,10 @@ same-length-2 : tie.Need-same-length-2
 same-length-2 c = search needs
 
 returns : tie.Need-returns
-returns c = c .before .before .before .before .before .decode-by .ensures
+returns c = c .before .before .before .before .decode-long .ensures
 
-table-room-requires : tie.Need-table-room-requires
-table-room-requires c κs = search needs
-
-slice-aggregate-decode-by-2 : tie.Need-slice-aggregate-decode-by-2
-slice-aggregate-decode-by-2 c = search needs
-
-decode-by-requires-2 : tie.Need-decode-by-requires-2
-decode-by-requires-2 c κs = any-room _ (c .before .before .before .table-room .ensures)
+decode-short-requires : tie.Need-decode-short-requires
+decode-short-requires c κs = sym (c .before .before .before .is-long .ensures) ∙ c .before .before .if1 .left
 
 same-length-3 : tie.Need-same-length-3
 same-length-3 c = search needs
@@ -43,22 +30,18 @@ same-length-4 : tie.Need-same-length-4
 same-length-4 c = search needs
 
 returns-2 : tie.Need-returns-2
-returns-2 c = c .before .before .before .before .before .decode-by2 .ensures
+returns-2 c = c .before .before .before .before .decode-short .ensures
 
 pub decode-spec : {M : Type 1} → statement M
 decode-spec =
     tie.close
     (tie.spec
-    few-symbols-requires
-    few-table-room-requires
-    slice-aggregate-decode-by
-    decode-by-requires
+    is-long-requires
+    decode-long-requires
     same-length
     same-length-2
     returns
-    table-room-requires
-    slice-aggregate-decode-by-2
-    decode-by-requires-2
+    decode-short-requires
     same-length-3
     same-length-4
     returns-2)

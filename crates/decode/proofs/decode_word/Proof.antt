@@ -2,13 +2,14 @@
 -- Assumes nothing.
 use mathlib.Core.Path.{_≡_, sym, ap, _∙_}
 use Prim.Native.Nat.{ℕ, _*_, _^_}
+use native.Mathlib.Nat.{le-of-eq}
 use native.Mathlib.Omega.{arith}
-use borrow.Author.Needs.{needs}
 use lib.ListN.{length}
 use Rattle.spec_range.specs.Table.{table}
 use Rattle.word_array.specs.Stored.{place}
 use Rattle.book.proofs.Described.{params-sizes}
-use Rattle.decode.proofs.Answering.{decode-number, input, input-size, loaded-stored, loaded-listed, exact-sizes, decodes-refused, decodes-done}
+use Rattle.decode.proofs.Answering.{decode-number, input, input-size, input-stored, input-listed, exact-sizes, decodes-refused, decodes-done}
+use borrow.Author.Needs.{needs}
 use Rattle.decode.proofs.decode_word.Statement.{statement}
 use Rattle.decode.proofs.decode_word.Tie as tie
 
@@ -29,28 +30,23 @@ returns c =
       h .2,
     )
 
-load-requires : tie.Need-load-requires
-load-requires c κs =
-    let looked = c .before in
-    let start = looked .before .before .before .before .before .before .before .before .before in
-    let d = start .pre .0 in
-    (params-sizes _ _ d .n-high, omega (arith, input-size _ _ d (start .args .received .now) (looked .before .before .exact .result) (looked .refusal .ensures) (looked .before .order .ensures) (c .if1 .left)))
-
 run-requires : tie.Need-run-requires
 run-requires c κs =
-    let loaded = c .before .before in
-    let looked = loaded .before .before in
+    let looked = c .before .before .before in
     let start = looked .before .before .before .before .before .before .before .before .before in
     let h = start .pre in
     let d = h .0 in
     let a = start .args in
-    let z = loaded .before .if1 .left in
-    let i = input _ _ d (a .received .now) (looked .before .before .exact .result) (looked .refusal .ensures) (looked .before .order .ensures) z in (
+    let asked = looked .refusal .ensures in
+    let q = looked .before .order .ensures in
+    let sized = looked .before .before .exact .ensures in
+    let z = c .before .before .if1 .left in (
       d,
       h .1,
       h .2,
-      loaded-stored _ _ d (a .received .now) (looked .before .before .exact .result) (looked .refusal .ensures) (looked .before .order .ensures) z _ (loaded .load .ensures),
-      exact-sizes (length (a .answer .now)) (a .c .n) (length (a .entries .now)) (2 ^ a .c .p * a .c .n) (looked .before .before .exact .ensures) (i .sizes) .1,
+      le-of-eq (sym (input-size _ _ d (a .received .now) (looked .before .before .exact .result) asked q z)),
+      input-stored _ _ d (a .received .now) (looked .before .before .exact .result) asked q z,
+      exact-sizes (length (a .answer .now)) (a .c .n) (length (a .entries .now)) (2 ^ a .c .p * a .c .n) sized (input _ _ d (a .received .now) (looked .before .before .exact .result) asked q z .sizes) .1,
     )
 
 slice-aggregate-store : tie.Need-slice-aggregate-store
@@ -58,28 +54,40 @@ slice-aggregate-store c = search needs
 
 store-requires : tie.Need-store-requires
 store-requires c κs =
-    let ran = c .before .before .before .before .before .before .before in
-    let looked = ran .before .before .before .before .before in
+    let looked = c .before .before .before .before .before .before .before .before .before .before .before in
     let start = looked .before .before .before .before .before .before .before .before .before in
+    let h = start .pre in
+    let d = h .0 in
     let a = start .args in
-    let d = start .pre .0 in
-    let i = input _ _ d (a .received .now) (looked .before .before .exact .result) (looked .refusal .ensures) (looked .before .order .ensures) (ran .before .before .before .before .if1 .left) in
-    let room = exact-sizes (length (a .answer .now)) (a .c .n) (length (a .entries .now)) (2 ^ a .c .p * a .c .n) (looked .before .before .exact .ensures) (i .sizes) .0 in
-    -- the word is an array of 63 places, as the result of the call is well formed
-    let long : length (ran .run .result .word) ≡ 63 = search (needs, ran .run .ok .1 .1 .1 .1 .0 .1) in
+    let asked = looked .refusal .ensures in
+    let q = looked .before .order .ensures in
+    let sized = looked .before .before .exact .ensures in
+    let z = c .before .before .before .before .before .before .before .before .before .before .if1 .left in
+    let room = exact-sizes (length (a .answer .now)) (a .c .n) (length (a .entries .now)) (2 ^ a .c .p * a .c .n) sized (input _ _ d (a .received .now) (looked .before .before .exact .result) asked q z .sizes) .0 in
+    -- the word is an array of 255 places, as the result of the call is well formed
+    let long : length (c .before .before .before .before .before .before .before .run .result .word) ≡ 255 = search (needs, c .before .before .before .before .before .before .before .run .ok .1 .1 .1 .1 .0 .1) in
     omega (arith, room, params-sizes _ _ d .n-high, long)
+
+slice-aggregate-distance : tie.Need-slice-aggregate-distance
+slice-aggregate-distance c = search needs
 
 distance-requires : tie.Need-distance-requires
 distance-requires c κs =
-    let ran = c .before .before .before .before .before .before .before .before .before .before in
-    let looked = ran .before .before .before .before .before in
-    params-sizes _ _ (looked .before .before .before .before .before .before .before .before .before .pre .0) .n-high
+    let looked = c .before .before .before .before .before .before .before .before .before .before .before .before .before .before .before in
+    let start = looked .before .before .before .before .before .before .before .before .before in
+    let h = start .pre in
+    let d = h .0 in
+    let a = start .args in
+    let asked = looked .refusal .ensures in
+    let q = looked .before .order .ensures in
+    let sized = looked .before .before .exact .ensures in
+    let z = c .before .before .before .before .before .before .before .before .before .before .before .before .before .before .if1 .left in
+    let high = params-sizes _ _ d .n-high in
+    let long : length (c .before .before .before .before .before .before .before .before .before .before .before .run .result .word) ≡ 255 = search (needs, c .before .before .before .before .before .before .before .before .before .before .before .run .ok .1 .1 .1 .1 .0 .1) in
+    (high, omega (arith, high, long), le-of-eq (sym (input-size _ _ d (a .received .now) (looked .before .before .exact .result) asked q z)))
 
-cast-t20 : tie.Need-cast-t20
-cast-t20 c =
-    let ran = c .before .before .before .before .before .before .before .before .before .before .before in
-    let looked = ran .before .before .before .before .before in
-    omega (arith, c .distance .ensures .1, params-sizes _ _ (looked .before .before .before .before .before .before .before .before .before .pre .0) .n-high)
+cast-t19 : tie.Need-cast-t19
+cast-t19 c = omega (arith, c .distance .ensures .1, params-sizes _ _ (c .before .before .before .before .before .before .before .before .before .before .before .before .before .before .before .before .before .before .before .before .before .before .before .before .before .pre .0) .n-high)
 
 same-length : tie.Need-same-length
 same-length c = search needs
@@ -92,22 +100,20 @@ same-length-3 c = search needs
 
 returns-2 : tie.Need-returns-2
 returns-2 c =
-    let stored = c .before .before .before in
-    let ran = stored .before .before .before .before .before .before .before .before in
-    let loaded = ran .before .before .before in
-    let looked = loaded .before .before in
+    let looked = c .before .before .before .before .before .before .before .before .before .before .before .before .before .before .before .before in
     let start = looked .before .before .before .before .before .before .before .before .before in
+    let h = start .pre in
+    let d = h .0 in
     let a = start .args in
-    let d = start .pre .0 in
-    let z = loaded .before .if1 .left in
     let asked = looked .refusal .ensures in
     let q = looked .before .order .ensures in
     let sized = looked .before .before .exact .ensures in
-    let i = input _ _ d (a .received .now) (looked .before .before .exact .result) asked q z in
-    let room = exact-sizes (length (a .answer .now)) (a .c .n) (length (a .entries .now)) (2 ^ a .c .p * a .c .n) sized (i .sizes) .0 in (
-      decodes-done _ _ d (a .received .now) (loaded .load .result) (loaded-listed _ _ d (a .received .now) (looked .before .before .exact .result) asked q z _ (loaded .load .ensures)) _ _ (ran .run .ensures .0) _
+    let z = c .before .before .before .before .before .before .before .before .before .before .before .before .before .before .before .if1 .left in
+    let ran = c .before .before .before .before .before .before .before .before .before .before .before .before in
+    let room = exact-sizes (length (a .answer .now)) (a .c .n) (length (a .entries .now)) (2 ^ a .c .p * a .c .n) sized (input _ _ d (a .received .now) (looked .before .before .exact .result) asked q z .sizes) .0 in (
+      decodes-done _ _ d (a .received .now) (input-listed _ _ d (a .received .now) (looked .before .before .exact .result) asked q z) _ _ (ran .run .ensures .0) _
           (sym (decode-number _ _ d _ _ _ asked q sized) ∙ z)
-          (stored .store .ensures ∙ ap (λ (k : ℕ). table k (place (ran .run .result .word))) room) (c .distance .ensures .0),
+          (c .before .before .before .before .store .ensures ∙ ap (λ (k : ℕ). table k (place (ran .run .result .word))) room) (c .distance .ensures .0),
       ran .run .ensures .1,
     )
 
@@ -119,12 +125,12 @@ decode-word-spec =
     order-requires
     refusal-requires
     returns
-    load-requires
     run-requires
     slice-aggregate-store
     store-requires
+    slice-aggregate-distance
     distance-requires
-    cast-t20
+    cast-t19
     same-length
     same-length-2
     same-length-3

@@ -6,12 +6,12 @@ use Prim.Native.Nat.{ℕ, _-_, _*_, _^_}
 use native.Mathlib.Omega.{arith}
 use borrow.Author.Needs.{needs}
 use lib.ListN.{length}
-use Rattle.spec_book.specs.Layout.{width, fieldOf, bookOf}
+use Rattle.spec_book.specs.Layout.{fieldOf, bookOf}
 use Rattle.spec_decoding.specs.Matrix.{matrix}
 use Rattle.spec_decoding.proofs.Matrix.{matrix-length}
 use Rattle.word_array.specs.Stored.{Stored}
 use Rattle.book.specs.declared.Params.{Params}
-use Rattle.book.proofs.Described.{params-stored, params-matrix}
+use Rattle.book.proofs.Described.{params-matrix}
 use Rattle.decode_rounds.specs.Rounds.{Prepared, Ready}
 use Rattle.decode_rounds.proofs.Running.{Left, left-all, left-more, ended-stalled, ended-mended, ended-spent}
 use Rattle.decode_rounds.proofs.go.Statement.{statement}
@@ -19,7 +19,7 @@ use Rattle.decode_rounds.proofs.go.Tie as tie
 
 -- the matrices that the book in the bytes makes
 abbrev make : List ℕ → (ℕ → ℕ) → List ℕ
-make bytes = matrix (fieldOf bytes) (bookOf width bytes)
+make bytes = matrix (fieldOf bytes) (bookOf bytes)
 
 -- a matrix that was made has the size that was asked for
 round-size : {c : Params} {t terms w m₀ : List ℕ} (h : Ready c t terms w m₀) {m : List ℕ} (f : ℕ → ℕ) → m ≡ make (h .bytes) f → length m ≡ 2 ^ c .p * c .n
@@ -28,7 +28,7 @@ round-size h f e = params-matrix _ _ (h .prepared .describes) (ap length e ∙ m
 abbrev Inv-loop : tie.InvT-loop
 Inv-loop c t terms r m₀ most w₀ made₀ m w made =
     (length m ≡ length m₀)
-    × Stored (c .p) (c .n) w
+    × Stored (c .p) 255 w
     × ((bytes : List ℕ) (h : Prepared bytes c t terms) → Left bytes (h .describes .accepted) (make bytes) made r w m)
 
 abbrev μ-loop : tie.MeasureT-loop
@@ -89,7 +89,7 @@ loop-again c =
     let made = c .before .before .before .before .before in
     let h = made .before .before .before .before .before .before .before .pre in (
       round-size h _ (made .round .ensures (h .bytes) (h .prepared) .matrix-is) ∙ sym (h .size),
-      params-stored _ _ (h .prepared .describes) (made .round .ensures (h .bytes) (h .prepared) .stored),
+      rw (h .prepared .describes .p-is) (made .round .ensures (h .bytes) (h .prepared) .stored),
       λ bytes p.
           let d = p .describes in
           left-more bytes (d .accepted) (make bytes) _ _ _ _ (made .before .before .before .loop .inv .2 bytes p)

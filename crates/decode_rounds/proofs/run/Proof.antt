@@ -1,29 +1,27 @@
 -- `decode_rounds::run` meets its contract.
 -- Assumes nothing.
-use mathlib.Core.Path.{sym, _∙_}
+use mathlib.Core.Path.{sym, _∙_, subst}
+use Prim.Native.Nat.{ℕ, _^_, _<_}
 use native.Mathlib.Omega.{arith}
 use borrow.Author.Needs.{needs}
-use Rattle.book.proofs.Described.{params-sizes, params-degree-sizes, degree-low, degree-high}
+use Rattle.word_array.specs.Stored.{place}
+use Rattle.book.proofs.Described.{params-sizes, degree-low, degree-high}
 use Rattle.matrix_terms.specs.Terms.{already}
 use Rattle.matrix.proofs.Whole.{listable}
-use Rattle.decode_rounds.proofs.Stepping.{params-fillable}
+use Rattle.decode_rounds.proofs.Stepping.{params-fillable, padded-symbols}
 use Rattle.decode_rounds.proofs.Decoding.{decoded-clean, decoded-rounds}
 use Rattle.decode_rounds.proofs.run.Statement.{statement}
 use Rattle.decode_rounds.proofs.run.Tie as tie
 
-remainder-requires : tie.Need-remainder-requires
-remainder-requires c κs =
-    let h = c .before .before .before .before .pre in
-    (params-sizes _ _ (h .0), degree-low _ _ (h .0), degree-high _ _ (h .0), h .3, h .1 .multiples)
+load-requires : tie.Need-load-requires
+load-requires c κs =
+    let h = c .before .before .before .before .before .pre in
+    (params-sizes _ _ (h .0) .n-high, omega (arith, h .3))
 
-slice-aggregate-is-zero : tie.Need-slice-aggregate-is-zero
-slice-aggregate-is-zero c = search needs
-
-is-zero-requires : tie.Need-is-zero-requires
-is-zero-requires c κs =
-    let divided = c .before in
-    let degree = params-degree-sizes _ _ (divided .before .before .before .before .before .pre .0) .n-high in
-    (omega (arith, degree), omega (arith, degree, divided .remainder .ensures .1))
+divides-requires : tie.Need-divides-requires
+divides-requires c κs =
+    let h = c .before .before .before .before .before .before .pre in
+    (params-sizes _ _ (h .0), degree-low _ _ (h .0), degree-high _ _ (h .0), h .3, h .4, h .1 .multiples)
 
 clear-requires : tie.Need-clear-requires
 clear-requires c κs = search needs
@@ -34,10 +32,10 @@ same-length c = search needs
 returns : tie.Need-returns
 returns c =
     let tested = c .before .before .before .before in
-    let divided = tested .before .before .before in
-    let start = divided .before .before .before .before .before in
+    let loaded = tested .before .before in
+    let start = loaded .before .before .before .before .before .before in
     let h = start .pre in (
-      decoded-clean _ _ _ _ (h .0) (h .1) _ (divided .remainder .ensures .0) (sym (tested .before .is-zero .ensures) ∙ tested .if1 .taken) (start .args .m .now) (h .4)
+      decoded-clean _ _ _ (start .args .received .now) (h .0) (h .1) _ (loaded .load .ensures) (sym (tested .before .divides .ensures) ∙ tested .if1 .taken) (start .args .m .now) (h .5)
           (c .before .before .clear .ensures),
       h .2,
     )
@@ -50,13 +48,14 @@ ready-requires c κs =
 go-requires : tie.Need-go-requires
 go-requires c κs =
     let listed = c .before .before .before .before in
-    let start = listed .before .before .before .before .before .before .before .before .before .before in
+    let loaded = listed .before .before .before .before in
+    let start = loaded .before .before .before .before .before .before in
     let h = start .pre in
     record {
       bytes = start .args .book .now;
       prepared = record { describes = h .0; table-is = h .1; terms-are = listed .ready .ensures .0 };
-      word = h .3;
-      size = h .4;
+      word = padded-symbols (loaded .load .ensures) (λ j l. subst (λ (k : ℕ). place (start .args .received .now) k < 2 ^ start .args .c .p) (omega arith) (h .4 .symbol j l));
+      size = h .5;
     }
 
 same-length-2 : tie.Need-same-length-2
@@ -69,11 +68,11 @@ returns-2 : tie.Need-returns-2
 returns-2 c =
     let listed = c .before .before .before .before .before .before .before in
     let tested = listed .before .before in
-    let divided = tested .before .before .before in
-    let start = divided .before .before .before .before .before in
+    let loaded = tested .before .before in
+    let start = loaded .before .before .before .before .before .before in
     let h = start .pre in
     let terms = listed .ready .ensures in (
-      decoded-rounds _ _ _ (start .args .r) (h .0) (h .1) _ (divided .remainder .ensures .0) (sym (tested .before .is-zero .ensures) ∙ tested .if1 .left)
+      decoded-rounds _ _ _ (start .args .received .now) (h .0) (h .1) _ (loaded .load .ensures) (sym (tested .before .divides .ensures) ∙ tested .if1 .left)
           (c .before .before .go .ensures _ (record { describes = h .0; table-is = h .1; terms-are = terms .0 })),
       record { long = omega (arith, h .2 .long, terms .1); kept = already (terms .0) },
     )
@@ -82,9 +81,8 @@ pub run-spec : {M : Type 1} → statement M
 run-spec =
     tie.close
     (tie.spec
-    remainder-requires
-    slice-aggregate-is-zero
-    is-zero-requires
+    load-requires
+    divides-requires
     clear-requires
     same-length
     returns

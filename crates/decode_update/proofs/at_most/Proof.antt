@@ -1,52 +1,48 @@
--- `decode_update::at_most` meets its contract. The invariant: `count` is the number of those below place j that are at most x.
+-- `decode_update::at_most` meets its contract. The invariant: `count` is the number of those of the first b blocks that are at most x.
 -- Assumes nothing.
 use Prim.Native.Nat.{_-_}
 use native.Mathlib.Omega.{arith}
 use lib.Dec.{leb}
 use Rattle.word_array.specs.Stored.{place}
-use Rattle.word_array.proofs.Counted.{Counted, counted-none, counted-more, counted-end}
 use Rattle.decode_update.specs.Rule.{atMost}
-use Rattle.decode_update.proofs.Counts.{counted-fits}
+use Rattle.decode_update.proofs.Counts.{Blocked, blocked-none, blocked-more, blocked-end}
 use borrow.Author.Needs.{needs}
 use Rattle.decode_update.proofs.at_most.Statement.{statement}
 use Rattle.decode_update.proofs.at_most.Tie as tie
 
 abbrev Inv-loop : tie.InvT-loop
-Inv-loop row x count₀ j₀ count j = Counted 64 (λ k. leb (place row k) x) j count
+Inv-loop blocks row x count₀ b₀ count b = Blocked blocks (λ k. leb (place row k) x) b count
 
 abbrev μ-loop : tie.MeasureT-loop
-μ-loop row x count₀ j₀ count j = 64 - j
+μ-loop blocks row x count₀ b₀ count b = blocks - b
 
 loop-holds : tie.Need-loop-holds Inv-loop μ-loop
-loop-holds c = counted-none _ _
+loop-holds c = blocked-none _ _
 
-mul-count : tie.Need-mul-count Inv-loop μ-loop
-mul-count c = search needs
+mul-at-most-block : tie.Need-mul-at-most-block Inv-loop μ-loop
+mul-at-most-block c = search needs
 
-element-copy-out-count : tie.Need-element-copy-out-count Inv-loop μ-loop
-element-copy-out-count c = search needs
-
-cast-count : tie.Need-cast-count Inv-loop μ-loop
-cast-count c = search needs
+at-most-block-requires : tie.Need-at-most-block-requires Inv-loop μ-loop
+at-most-block-requires c κs = search needs
 
 add-count : tie.Need-add-count Inv-loop μ-loop
-add-count c = search (needs, counted-fits (c .before .before .loop .inv))
+add-count c = search needs
 
-add-j : tie.Need-add-j Inv-loop μ-loop
-add-j c = search needs
+add-b : tie.Need-add-b Inv-loop μ-loop
+add-b c = search needs
 
 loop-less : tie.Need-loop-less Inv-loop μ-loop
 loop-less c = search needs
 
 loop-again : tie.Need-loop-again Inv-loop μ-loop
-loop-again c = counted-more (c .before .before .loop .inv) (omega arith)
+loop-again c = blocked-more (c .before .before .loop .inv) (omega arith) (c .at-most-block .ensures)
 
 cast-result : tie.Need-cast-result Inv-loop μ-loop
-cast-result c = omega (arith, counted-end (c .before .loop .inv) (omega arith) .1)
+cast-result c = search needs
 
 returns : tie.Need-returns Inv-loop μ-loop
 unfolding atMost
-returns c = counted-end (c .before .loop .inv) (omega arith) .0
+returns c = blocked-end (c .before .loop .inv) (omega arith)
 
 pub at-most-spec : {M : Type 1} → statement M
 at-most-spec =
@@ -55,11 +51,10 @@ at-most-spec =
     Inv-loop
     μ-loop
     loop-holds
-    mul-count
-    element-copy-out-count
-    cast-count
+    mul-at-most-block
+    at-most-block-requires
     add-count
-    add-j
+    add-b
     loop-less
     loop-again
     cast-result

@@ -1,5 +1,6 @@
 -- `decode_update::corrections` meets its contract. The invariant: the places below j hold what the counts admit of each column's symbol.
 -- Assumes nothing.
+use mathlib.Core.Path.{sym}
 use Prim.Native.Nat.{_-_, _≤_}
 use native.Mathlib.Omega.{arith}
 use lib.Pow.{pow-pos}
@@ -15,7 +16,7 @@ use Rattle.decode_update.proofs.corrections.Tie as tie
 
 abbrev Inv-loop : tie.InvT-loop
 Inv-loop p n places m counts symbols low high e₀ j₀ e j =
-    (j ≤ n) × Held 63 j (λ j. admitted places (atMost n m (place m j)) (atLeast n counts (place counts j)) (place symbols j)) e
+    (j ≤ n) × Held 255 j (λ j. admitted places (atMost n m (place m j)) (atLeast n counts (place counts j)) (place symbols j)) e
 
 abbrev μ-loop : tie.MeasureT-loop
 μ-loop p n places m counts symbols low high e₀ j₀ e j = n - j
@@ -28,18 +29,21 @@ low-limit-requires c κs =
     let s = c .before .before .before .before in
     (search needs, omega (arith, row-within (s .args .n) (pow-pos (s .args .p))))
 
+slice-aggregate-high-limit : tie.Need-slice-aggregate-high-limit Inv-loop μ-loop
+slice-aggregate-high-limit c = sym (c .before .before .peaks .ensures .1)
+
 high-limit-requires : tie.Need-high-limit-requires Inv-loop μ-loop
-high-limit-requires c κs = search needs
+high-limit-requires c κs = (search needs, omega (arith, c .before .before .peaks .ensures .1))
 
 loop-holds : tie.Need-loop-holds Inv-loop μ-loop
-loop-holds c = (search needs, held-none 63 _)
+loop-holds c = (search needs, held-none 255 _)
 
 mul-chosen : tie.Need-mul-chosen Inv-loop μ-loop
 mul-chosen c = search needs
 
 shared-slice-read-chosen : tie.Need-shared-slice-read-chosen Inv-loop μ-loop
 shared-slice-read-chosen c =
-    let s = c .before .before .before .before .before .before .before .before .before in
+    let s = c .before .before .before .before .before .before .before .before .before .before in
     omega (arith, row-within (s .args .n) (pow-pos (s .args .p)))
 
 mul-chosen-2 : tie.Need-mul-chosen-2 Inv-loop μ-loop
@@ -67,17 +71,17 @@ loop-again : tie.Need-loop-again Inv-loop μ-loop
 unfolding admitted
 loop-again c =
     let t = c .before .before .before in
-    let low = t .before .before .low-limit .ensures in
+    let low = t .before .before .before .low-limit .ensures in
     let high = t .before .high-limit .ensures in
     let e = c .chosen .ensures in
     (search needs, held-more _ (omega arith) (rw (low _ (e .1), high _ (e .2)) (e .0)) (t .loop .inv .1))
 
 returns : tie.Need-returns Inv-loop μ-loop
 returns c =
-    let t = c .before .before .before .before .before .before in
-    let s = t .before .before in
+    let t = c .before .before .before .before .before in
+    let s = t .before .before .before .before in
     λ B e d.
-    corrections-held _ (gf-laws _ (s .pre .0 .p-low) (s .pre .0 .p-high)) B _ _ _ e d (t .peaks .ensures) (omega arith) (c .before .loop .inv .1)
+    corrections-held _ (gf-laws _ (s .pre .0 .p-low) (s .pre .0 .p-high)) B _ _ _ e d (t .peaks .ensures .0) (omega arith) (c .before .loop .inv .1)
 
 pub corrections-spec : {M : Type 1} → statement M
 corrections-spec =
@@ -87,6 +91,7 @@ corrections-spec =
     μ-loop
     peaks-requires
     low-limit-requires
+    slice-aggregate-high-limit
     high-limit-requires
     loop-holds
     mul-chosen

@@ -1,9 +1,7 @@
 -- `decode_update::high_limit` meets its contract.
 -- Assumes nothing.
 use native.Mathlib.Omega.{arith}
-use mir.Syntax.{w16}
-use borrow.Kind.Array.{eInt, good-length}
-use Rattle.decode_update.proofs.Limits.{limit-front, high-end, high-all}
+use Rattle.decode_update.proofs.Limits.{blocks-hold, limit-front, top-counts, high-end, high-all}
 use borrow.Author.Needs.{needs}
 use Rattle.decode_update.proofs.high_limit.Statement.{statement}
 use Rattle.decode_update.proofs.high_limit.Tie as tie
@@ -11,32 +9,46 @@ use Rattle.decode_update.proofs.high_limit.Tie as tie
 returns : tie.Need-returns
 returns c = high-all _ _ _ (c .if1 .taken) (omega arith)
 
-slice-aggregate-widened : tie.Need-slice-aggregate-widened
-slice-aggregate-widened c = search needs
+sub-most : tie.Need-sub-most
+sub-most c = search needs
+
+sub-most-2 : tie.Need-sub-most-2
+sub-most-2 c = search needs
+
+blocks-requires : tie.Need-blocks-requires
+blocks-requires c κs = search needs
 
 widened-requires : tie.Need-widened-requires
-widened-requires c κs =
-    let s = c .before .before in
-    (search needs, omega (arith, good-length (eInt w16) 63 (s .args .t3) _ (s .good .1 .1 .0)))
+widened-requires c κs = search needs
 
-sub-limit : tie.Need-sub-limit
-sub-limit c = search needs
-
-sub-limit-2 : tie.Need-sub-limit-2
-sub-limit-2 c = search needs
+largest-requires : tie.Need-largest-requires
+largest-requires c κs = search needs
 
 limit-requires : tie.Need-limit-requires
-limit-requires c κs = search needs
+limit-requires c κs =
+    let t = c .before .before in
+    let b = blocks-hold (t .before .blocks2 .ensures) (omega arith) in
+    (t .widened .ensures .long, omega (arith, b .1), top-counts (t .widened .ensures) (b .0) (omega arith) (c .largest .ensures))
 
 add-result : tie.Need-add-result
 add-result c = search needs
 
 returns-2 : tie.Need-returns-2
 returns-2 c =
-    let s = c .before .before in
-    high-end _ _ _ (s .before .before .if1 .left) (limit-front (s .widened .ensures) (omega arith) (omega arith) (c .limit .ensures))
+    let t = c .before .before .before in
+    let b = blocks-hold (t .before .blocks2 .ensures) (omega arith) in
+    high-end _ _ _ (t .before .before .if1 .left) (limit-front (t .widened .ensures) (b .0) (b .1) (omega arith) (c .limit .ensures))
 
 pub high-limit-spec : {M : Type 1} → statement M
 high-limit-spec =
     tie.close
-    (tie.spec returns slice-aggregate-widened widened-requires sub-limit sub-limit-2 limit-requires add-result returns-2)
+    (tie.spec
+    returns
+    sub-most
+    sub-most-2
+    blocks-requires
+    widened-requires
+    largest-requires
+    limit-requires
+    add-result
+    returns-2)

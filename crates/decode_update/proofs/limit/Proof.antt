@@ -1,6 +1,7 @@
 -- `decode_update::limit` meets its contract. The invariant: the limit is one of the `width` numbers from `least` on.
 -- Assumes nothing.
 use mathlib.Core.Logic.{⊎-elim}
+use Prim.Native.Nat.{_*_}
 use native.Mathlib.Omega.{arith}
 use Rattle.decode_update.proofs.Search.{Sought, sought-after, sought-before}
 use Rattle.decode_update.proofs.Limits.{Low, low-falls, low-start, low-end}
@@ -9,13 +10,16 @@ use Rattle.decode_update.proofs.limit.Statement.{statement}
 use Rattle.decode_update.proofs.limit.Tie as tie
 
 abbrev Inv-loop : tie.InvT-loop
-Inv-loop row most least₀ width₀ least width = Sought 65536 (Low 64 most row) least width
+Inv-loop blocks row most top least₀ width₀ least width = Sought 65536 (Low (64 * blocks) most row) least width
 
 abbrev μ-loop : tie.MeasureT-loop
-μ-loop row most least₀ width₀ least width = width
+μ-loop blocks row most top least₀ width₀ least width = width
+
+add-width : tie.Need-add-width Inv-loop μ-loop
+add-width c = search needs
 
 loop-holds : tie.Need-loop-holds Inv-loop μ-loop
-loop-holds c = low-start _ _ _ (c .pre .1) (omega arith) (λ k l. omega (arith, c .pre .2 k l))
+loop-holds c = low-start _ _ _ (c .pre .2) (omega arith)
 
 add-at-most : tie.Need-add-at-most Inv-loop μ-loop
 add-at-most c = search needs
@@ -57,6 +61,7 @@ limit-spec =
     (tie.spec
     Inv-loop
     μ-loop
+    add-width
     loop-holds
     add-at-most
     sub-at-most

@@ -29,7 +29,9 @@ sub-last : tie.Need-sub-last Inv-loop μ-loop
 sub-last c = omega (arith, pow-pos (c .before .before .args .p))
 
 loop-holds : tie.Need-loop-holds Inv-loop μ-loop
-loop-holds c = climbing-none (omega arith) (pow-pos (c .before .before .args .p))
+loop-holds c =
+    let s = c .before .before in
+    rw (s .pre .2, s .pre .3) (climbing-none (omega arith) (pow-pos (s .args .p)))
 
 cast-start : tie.Need-cast-start Inv-loop μ-loop
 cast-start c = search needs
@@ -71,7 +73,7 @@ loop-again c =
 returns : tie.Need-returns Inv-loop μ-loop
 returns c =
     let e : c .before .loop .i ≡ 2 ^ c .before .before .before .before .args .p = omega arith in
-    rw e at (c .before .loop .inv .peaked)
+    (rw e at (c .before .loop .inv .peaked), c .before .loop .inv .counts-long)
 
 pub peaks-spec : {M : Type 1} → statement M
 peaks-spec =

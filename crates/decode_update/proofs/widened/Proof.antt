@@ -51,10 +51,10 @@ returns : tie.Need-returns Inv-loop μ-loop
 returns c =
     let n = c .before .before .args .n in
     let h = c .before .loop .inv .1 in
-    let rest : (k : ℕ) → n ≤ k → k < 64 → place (c .before .loop .w) k ≡ 65535 =
-    λ k l b. h .rest k (omega arith) ∙ getD-replicate 64 k 65535 0 b in
+    let rest : (k : ℕ) → n ≤ k → k < 256 → place (c .before .loop .w) k ≡ 65535 =
+    λ k l b. h .rest k (omega arith) ∙ getD-replicate 256 k 65535 0 b in
     record {
-      long = h .long ∙ length-replicate {A = ℕ} 64 65535;
+      long = h .long ∙ length-replicate {A = ℕ} 256 65535;
       at = λ k l. h .at k (omega arith);
       rest = rest;
       most = λ k b. ⊎-elim (λ l. omega (arith, rest k l b)) (λ l. omega (arith, h .at k (omega arith), c .before .loop .inv .2 k (omega arith))) (le-or-lt n k);

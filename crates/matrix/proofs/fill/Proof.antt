@@ -1,5 +1,6 @@
 -- `matrix::fill` meets its contract: both ways count what the definition does.
 -- Assumes nothing.
+use Prim.Native.Nat.{_≤_}
 use mathlib.Core.Path.{sym, _∙_}
 use native.Mathlib.Omega.{arith}
 use borrow.Author.Tests.{ltb-true, ltb-false}
@@ -16,13 +17,14 @@ few-requires c κs = search needs
 fill-requires : tie.Need-fill-requires
 fill-requires c κs =
     let t = c .before in
-    let a = t .before .before .before .before in
-    (a .pre .0, omega (arith, ltb-true (a .args .p) 4 (sym (t .before .few .ensures) ∙ t .if1 .taken)))
+    let a = t .before .before .before .before .before in
+    let few : a .args .p ≤ 3 = omega (arith, ltb-true (a .args .p) 4 (sym (t .before .few .ensures) ∙ t .if1 .taken)) in
+    (a .pre .0, few, a .pre .2 few)
 
 fill-requires-2 : tie.Need-fill-requires-2
 fill-requires-2 c κs =
     let t = c .before in
-    let a = t .before .before .before .before in
+    let a = t .before .before .before .before .before in
     (a .pre .0, a .pre .1 (ltb-false (a .args .p) 4 (sym (t .before .few .ensures) ∙ t .if1 .left)))
 
 same-length : tie.Need-same-length

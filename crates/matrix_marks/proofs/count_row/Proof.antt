@@ -1,58 +1,69 @@
--- `matrix_marks::count_row` meets its contract. The invariant: the marks of the first i terms are added.
+-- `matrix_marks::count_row` meets its contract. The invariant: the first b blocks are added.
 -- Assumes nothing.
-use Prim.Native.Nat.{_+_, _-_}
+use mathlib.Core.Path.{_≡_}
+use Prim.Native.Nat.{_+_, _-_, _*_, _≤_}
+use native.Mathlib.Nat.{le-trans, le-of-eq}
 use native.Mathlib.Omega.{arith}
-use Rattle.matrix_marks.proofs.Marking.{Summing, summing-none, summing-addable, summing-more, summing-end}
+use Rattle.word_array.specs.Stored.{place}
+use Rattle.word_table.specs.Window.{Window}
+use Rattle.word_table.proofs.Window.{window-none}
+use Rattle.matrix_marks.specs.Marks.{marksOf}
+use Rattle.matrix_marks.proofs.Marking.{summable-block, block-added}
 use borrow.Author.Needs.{needs}
 use Rattle.matrix_marks.proofs.count_row.Statement.{statement}
 use Rattle.matrix_marks.proofs.count_row.Tie as tie
 
 abbrev Inv-loop : tie.InvT-loop
-Inv-loop v start terms from weight row₀ i₀ row i = Summing 64 v start terms from weight i row
+Inv-loop blocks v start terms from weight to counts₀ b₀ counts b =
+    (b ≤ blocks) × Window to (64 * b) (λ j. place counts₀ (to + j) + marksOf v start terms from weight j) counts₀ counts
 
 abbrev μ-loop : tie.MeasureT-loop
-μ-loop v start terms from weight row₀ i₀ row i = weight - i
+μ-loop blocks v start terms from weight to counts₀ b₀ counts b = blocks - b
 
 loop-holds : tie.Need-loop-holds Inv-loop μ-loop
-loop-holds c = summing-none 64 _ _ _ _ _
+loop-holds c = (search needs, window-none _ _ _)
 
-add-add-marks : tie.Need-add-add-marks Inv-loop μ-loop
-add-add-marks c = search needs
+mul-count-block : tie.Need-mul-count-block Inv-loop μ-loop
+mul-count-block c = search needs
 
-mul-add-marks : tie.Need-mul-add-marks Inv-loop μ-loop
-mul-add-marks c = search needs
+add-count-block : tie.Need-add-count-block Inv-loop μ-loop
+add-count-block c = search needs
 
-shared-slice-read-add-marks : tie.Need-shared-slice-read-add-marks Inv-loop μ-loop
-shared-slice-read-add-marks c = search needs
+count-block-requires : tie.Need-count-block-requires Inv-loop μ-loop
+count-block-requires c κs = let s = c .before in summable-block (s .before .before .before .before .pre .0) (s .loop .b) (omega arith)
 
-cast-add-marks : tie.Need-cast-add-marks Inv-loop μ-loop
-cast-add-marks c =
-    let s = c .before .before in
-    omega (arith, c .shared-slice-known3 .given (s .before .before .before .args .from + s .loop .i))
+mul-raise : tie.Need-mul-raise Inv-loop μ-loop
+mul-raise c = search needs
 
-add-add-marks-2 : tie.Need-add-add-marks-2 Inv-loop μ-loop
-add-add-marks-2 c =
-    let s = c .before .before in
-    omega (arith, s .before .before .before .pre .within (s .loop .i) (c .before .loop-test .taken))
+add-raise : tie.Need-add-raise Inv-loop μ-loop
+add-raise c = search needs
 
-add-marks-requires : tie.Need-add-marks-requires Inv-loop μ-loop
-add-marks-requires c κs =
+raise-requires : tie.Need-raise-requires Inv-loop μ-loop
+raise-requires c κs =
     let s = c .before .before .before in
-    summing-addable (s .loop .inv) (s .before .before .before .pre) (c .before .before .loop-test .taken)
+    let pre = s .before .before .before .before .pre in
+    (search needs, λ j l. le-trans (le-of-eq (s .loop .inv .1 .high _ (omega arith))) (pre .2 _))
 
-add-i : tie.Need-add-i Inv-loop μ-loop
-add-i c = search needs
+add-b : tie.Need-add-b Inv-loop μ-loop
+add-b c = search needs
 
 loop-less : tie.Need-loop-less Inv-loop μ-loop
 loop-less c = search needs
 
 loop-again : tie.Need-loop-again Inv-loop μ-loop
 loop-again c =
-    let s = c .before .before .before .before in
-    summing-more (s .loop .inv) (c .before .before .before .loop-test .taken) (c .add-marks .ensures)
+    let r = c .before .before in
+    let s = r .before .before .before .before in
+    (search needs, block-added (s .before .before .before .before .pre .0) _ (r .before .before .count-block .ensures) (s .loop .inv .1) (r .raise .ensures))
+
+same-length : tie.Need-same-length Inv-loop μ-loop
+same-length c = c .before .loop .inv .1 .long
 
 returns : tie.Need-returns Inv-loop μ-loop
-returns c = summing-end (c .before .loop .inv) (c .loop-test .left)
+returns c =
+    let s = c .before in
+    let e : s .loop .b ≡ s .before .before .before .before .args .blocks = omega arith in
+    rw e at (s .loop .inv .1)
 
 pub count-row-spec : {M : Type 1} → statement M
 count-row-spec =
@@ -61,13 +72,14 @@ count-row-spec =
     Inv-loop
     μ-loop
     loop-holds
-    add-add-marks
-    mul-add-marks
-    shared-slice-read-add-marks
-    cast-add-marks
-    add-add-marks-2
-    add-marks-requires
-    add-i
+    mul-count-block
+    add-count-block
+    count-block-requires
+    mul-raise
+    add-raise
+    raise-requires
+    add-b
     loop-less
     loop-again
+    same-length
     returns)

@@ -1,20 +1,20 @@
 -- `matrix_marks::gather` meets its contract. The invariant: rows 1 to i - 1 are gathered.
 -- Assumes nothing.
 use mathlib.Core.Path.{_∙_}
-use Prim.Native.Nat.{_-_, _^_, _<_}
+use Prim.Native.Nat.{_-_, _*_, _^_, _<_}
 use native.Mathlib.Omega.{arith}
 use Rattle.matrix_terms.proofs.Received.{order-le}
 use Rattle.matrix_terms.proofs.Summing.{wide-fits}
-use Rattle.matrix_marks.proofs.Gathering.{Gathering, gathering-none, row-within, counters-within, gathering-more, gathering-end}
+use Rattle.matrix_marks.proofs.Gathering.{Gathering, gathering-none, row-within, counters-within, span-within, gathering-more, gathering-end}
 use borrow.Author.Needs.{needs}
 use Rattle.matrix_marks.proofs.gather.Statement.{statement}
 use Rattle.matrix_marks.proofs.gather.Tie as tie
 
 abbrev Inv-loop : tie.InvT-loop
-Inv-loop p n terms counts m₀ q i₀ m i = Gathering 64 n terms counts m₀ m i
+Inv-loop p n blocks terms counts m₀ q i₀ m i = Gathering (64 * blocks) n terms counts m₀ m i
 
 abbrev μ-loop : tie.MeasureT-loop
-μ-loop p n terms counts m₀ q i₀ m i = q - i
+μ-loop p n blocks terms counts m₀ q i₀ m i = q - i
 
 -- the way back from the loop to the arguments
 abbrev begun : tie.At-loop Inv-loop μ-loop → tie.Start Inv-loop μ-loop
@@ -31,13 +31,16 @@ wide-requires : tie.Need-wide-requires Inv-loop μ-loop
 wide-requires c κs = search needs
 
 loop-holds : tie.Need-loop-holds Inv-loop μ-loop
-loop-holds c = gathering-none 64 _ _ _ _
+loop-holds c = gathering-none _ _ _ _ _
 
 mul-gather-row : tie.Need-mul-gather-row Inv-loop μ-loop
 mul-gather-row c = let s = c .before in omega (arith, row-within (begun s .pre) (s .loop .inv) (symbol c), s .loop .inv .long)
 
 mul-gather-row-2 : tie.Need-mul-gather-row-2 Inv-loop μ-loop
-mul-gather-row-2 c = let s = c .before in omega (arith, symbol c, order-le (begun s .pre .sizes))
+mul-gather-row-2 c = let s = c .before in omega (arith, span-within (begun s .pre) (s .loop .inv))
+
+mul-gather-row-3 : tie.Need-mul-gather-row-3 Inv-loop μ-loop
+mul-gather-row-3 c = let s = c .before in omega (arith, symbol c, order-le (begun s .pre .sizes))
 
 shared-slice-read-gather-row : tie.Need-shared-slice-read-gather-row Inv-loop μ-loop
 shared-slice-read-gather-row c = let s = c .before .before in omega (arith, symbol (c .before), order-le (begun s .pre .sizes), begun s .pre .logs-long)
@@ -45,11 +48,8 @@ shared-slice-read-gather-row c = let s = c .before .before in omega (arith, symb
 cast-gather-row : tie.Need-cast-gather-row Inv-loop μ-loop
 cast-gather-row c = wide-fits (c .shared-slice-known3 .given _)
 
-mul-gather-row-3 : tie.Need-mul-gather-row-3 Inv-loop μ-loop
-mul-gather-row-3 c =
-    let s = c .before .before in
-    let pre = begun s .pre in
-    omega (arith, pre .log-lt _ (s .loop .inv .from-one) (symbol (c .before)), order-le (pre .sizes))
+mul-gather-row-4 : tie.Need-mul-gather-row-4 Inv-loop μ-loop
+mul-gather-row-4 c = let s = c .before .before in omega (arith, counters-within (begun s .pre) (s .loop .inv) (symbol (c .before)))
 
 gather-row-requires : tie.Need-gather-row-requires Inv-loop μ-loop
 gather-row-requires c κs =
@@ -88,9 +88,10 @@ gather-spec =
     loop-holds
     mul-gather-row
     mul-gather-row-2
+    mul-gather-row-3
     shared-slice-read-gather-row
     cast-gather-row
-    mul-gather-row-3
+    mul-gather-row-4
     gather-row-requires
     add-i
     loop-less

@@ -1,12 +1,11 @@
 -- `matrix_marks::gather_row` meets its contract. The invariant: the columns below j are copied.
 -- Assumes nothing.
-use mathlib.Core.Path.{refl}
+use mathlib.Core.Path.{_≡_, refl}
 use Prim.Native.Nat.{_+_, _-_, _≤_}
 use native.Mathlib.Omega.{arith}
 use Rattle.word_array.specs.Stored.{place}
 use Rattle.word_table.specs.Window.{Window}
 use Rattle.word_table.proofs.Window.{window-none, window-more}
-use Rattle.matrix_marks.proofs.Gathering.{window-copied}
 use borrow.Author.Needs.{needs}
 use Rattle.matrix_marks.proofs.gather_row.Statement.{statement}
 use Rattle.matrix_marks.proofs.gather_row.Tie as tie
@@ -53,7 +52,10 @@ same-length : tie.Need-same-length Inv-loop μ-loop
 same-length c = c .before .loop .inv .1 .long
 
 returns : tie.Need-returns Inv-loop μ-loop
-returns c = window-copied (omega arith) (c .before .loop .inv .1)
+returns c =
+    let s = c .before in
+    let e : s .loop .j ≡ s .before .args .n = omega arith in
+    rw e at (s .loop .inv .1)
 
 pub gather-row-spec : {M : Type 1} → statement M
 gather-row-spec =

@@ -1,7 +1,7 @@
 -- `matrix_marks::raise` meets its contract. The invariant: the columns below j are added.
 -- Assumes nothing.
 use Prim.Native.Nat.{ℕ, _+_, _-_, _≤_}
-use mathlib.Core.Path.{ap}
+use mathlib.Core.Path.{_≡_, ap}
 use native.Mathlib.Nat.{le-refl, le-trans, le-of-eq}
 use native.Mathlib.Omega.{arith}
 use mir.Syntax.{w8}
@@ -9,19 +9,16 @@ use mir.Val.{Fits}
 use Rattle.word_array.specs.Stored.{place}
 use Rattle.word_table.specs.Window.{Window}
 use Rattle.word_table.proofs.Window.{window-none, window-more}
-use Rattle.matrix_marks.proofs.Marking.{sum-fits, window-added}
+use Rattle.matrix_marks.proofs.Marking.{sum-fits}
 use borrow.Author.Needs.{needs}
 use Rattle.matrix_marks.proofs.raise.Statement.{statement}
 use Rattle.matrix_marks.proofs.raise.Tie as tie
 
 abbrev Inv-loop : tie.InvT-loop
-Inv-loop e counts₀ row from j₀ counts j = (j ≤ 64) × Window from j (λ j. place counts₀ (from + j) + place row j) counts₀ counts
+Inv-loop to counts₀ row j₀ counts j = (j ≤ 64) × Window to j (λ j. place counts₀ (to + j) + place row j) counts₀ counts
 
 abbrev μ-loop : tie.MeasureT-loop
-μ-loop e counts₀ row from j₀ counts j = 64 - j
-
-mul-from : tie.Need-mul-from Inv-loop μ-loop
-mul-from c = search needs
+μ-loop to counts₀ row j₀ counts j = 64 - j
 
 loop-holds : tie.Need-loop-holds Inv-loop μ-loop
 loop-holds c = (search needs, window-none _ _ _)
@@ -45,7 +42,7 @@ add-counts-2 : tie.Need-add-counts-2 Inv-loop μ-loop
 add-counts-2 c =
     let s = c .before .before in
     let f : Fits w8 (place (s .before .args .t1) (s .loop .j)) = search needs in
-    search (needs, sum-fits _ _ f (le-trans (le-of-eq (s .loop .inv .1 .high _ (le-refl _))) (s .before .pre .1 _)))
+    search (needs, sum-fits _ _ f (le-trans (le-of-eq (s .loop .inv .1 .high _ (le-refl _))) (s .before .pre .1 _ (omega arith))))
 
 slice-write-counts : tie.Need-slice-write-counts Inv-loop μ-loop
 slice-write-counts c = search needs
@@ -66,7 +63,9 @@ same-length : tie.Need-same-length Inv-loop μ-loop
 same-length c = c .before .loop .inv .1 .long
 
 returns : tie.Need-returns Inv-loop μ-loop
-returns c = window-added (omega arith) (omega arith) (c .before .loop .inv .1)
+returns c =
+    let e : c .before .loop .j ≡ 64 = omega arith in
+    rw e at (c .before .loop .inv .1)
 
 pub raise-spec : {M : Type 1} → statement M
 raise-spec =
@@ -74,7 +73,6 @@ raise-spec =
     (tie.spec
     Inv-loop
     μ-loop
-    mul-from
     loop-holds
     array-read-counts
     cast-counts

@@ -1,10 +1,8 @@
 -- `matrix_scatter::fill` meets its contract.
 -- Assumes nothing.
-use mathlib.Core.Path.{_≡_}
-use Prim.Native.Nat.{_^_}
 use native.Mathlib.Omega.{arith}
-use Rattle.matrix_terms.proofs.Received.{order-low, order-le}
-use Rattle.matrix_scatter.proofs.Whole.{rows-fit, cleared}
+use Rattle.matrix_terms.proofs.Received.{order-low}
+use Rattle.matrix_scatter.proofs.Whole.{rows-are, rows-fit}
 use borrow.Author.Needs.{needs}
 use Rattle.matrix_scatter.proofs.fill.Statement.{statement}
 use Rattle.matrix_scatter.proofs.fill.Tie as tie
@@ -16,66 +14,42 @@ wide-requires : tie.Need-wide-requires
 wide-requires c κs = search needs
 
 sub-rows : tie.Need-sub-rows
-sub-rows c = omega (arith, c .wide .ensures, c .before .order .ensures, order-low (c .before .before .before .before .pre .0 .terms-of .numbers .sizes))
+sub-rows c = omega (arith, c .wide .ensures, c .before .order .ensures, order-low (c .before .before .before .before .before .pre .0 .terms-of .numbers .sizes))
 
 mul-rows : tie.Need-mul-rows
-mul-rows c = omega (arith, c .wide .ensures, c .before .order .ensures, order-le (c .before .before .before .before .pre .0 .terms-of .numbers .sizes))
+mul-rows c = search needs
 
 add-rows : tie.Need-add-rows
-add-rows c = omega (arith, c .wide .ensures, c .before .order .ensures, order-le (c .before .before .before .before .pre .0 .terms-of .numbers .sizes))
+add-rows c = search needs
 
 add-if1 : tie.Need-add-if1
-add-if1 c = omega (arith, c .before .before .before .before .pre .0 .terms-of .numbers .sizes .n-high)
+add-if1 c = search needs
 
 mul-if1 : tie.Need-mul-if1
 mul-if1 c =
-    let s = c .before .before .before .before .pre .0 .terms-of .numbers .sizes in
-    omega (arith, rows-fit s (c .wide .result) (omega (arith, c .wide .ensures, c .before .order .ensures)))
+    let s = c .before .before .before .before .before in
+    omega (arith, rows-are (s .args .p) (s .args .n) (c .wide .ensures) (c .before .order .ensures), rows-fit (s .pre .0 .terms-of .numbers .sizes))
 
-small-room-requires : tie.Need-small-room-requires
-small-room-requires c κs = search needs
+fill-few-requires : tie.Need-fill-few-requires
+fill-few-requires c κs =
+    let s = c .before .before .before .before .before .before .before in
+    let t = c .before .before in
+    (s .pre .0, s .pre .1, omega (arith, rows-are (s .args .p) (s .args .n) (t .wide .ensures) (t .before .order .ensures), c .before .if1 .taken))
 
-slice-aggregate-fill-by : tie.Need-slice-aggregate-fill-by
-slice-aggregate-fill-by c = search needs
-
-fill-by-requires : tie.Need-fill-by-requires
-fill-by-requires c κs =
-    let s = c .before .before in
-    let t = s .before in
-    let u = t .before in
-    let v = u .before in
-    let pre = v .before .before .before .pre in
-    let room = s .small-room .ensures in
-    (pre .0, pre .1, cleared (u .wide .result) (omega (arith, u .wide .ensures, v .order .ensures)) (t .if1 .taken) (room .0) (room .1))
-
-large-room-requires : tie.Need-large-room-requires
-large-room-requires c κs = search needs
-
-slice-aggregate-fill-by-2 : tie.Need-slice-aggregate-fill-by-2
-slice-aggregate-fill-by-2 c = search needs
-
-fill-by-requires-2 : tie.Need-fill-by-requires-2
-fill-by-requires-2 c κs =
-    let s = c .before .before in
-    let t = s .before .before in
-    let u = t .before in
-    let v = u .before .before .before in
-    let pre = v .pre in
-    let room = s .large-room .ensures in
-    let e : t .wide .result ≡ 2 ^ (v .args .p) = omega (arith, t .wide .ensures, u .order .ensures) in
-    (pre .0, pre .1, cleared (t .wide .result) e (omega (arith, rows-fit (pre .0 .terms-of .numbers .sizes) (t .wide .result) e)) (room .0) (room .1))
+fill-many-requires : tie.Need-fill-many-requires
+fill-many-requires c κs = c .before .before .before .before .before .before .before .pre
 
 same-length : tie.Need-same-length
 same-length c = search needs
 
 returns : tie.Need-returns
-returns c = c .before .before .before .fill-by .ensures
+returns c = c .before .before .fill-few .ensures
 
 same-length-2 : tie.Need-same-length-2
 same-length-2 c = search needs
 
 returns-2 : tie.Need-returns-2
-returns-2 c = c .before .before .before .fill-by2 .ensures
+returns-2 c = c .before .before .fill-many .ensures
 
 pub fill-spec : {M : Type 1} → statement M
 fill-spec =
@@ -88,12 +62,8 @@ fill-spec =
     add-rows
     add-if1
     mul-if1
-    small-room-requires
-    slice-aggregate-fill-by
-    fill-by-requires
-    large-room-requires
-    slice-aggregate-fill-by-2
-    fill-by-requires-2
+    fill-few-requires
+    fill-many-requires
     same-length
     returns
     same-length-2

@@ -9,13 +9,17 @@ use borrow.Author.Needs.{needs}
 use Rattle.matrix_scatter.proofs.fill_by.Statement.{statement}
 use Rattle.matrix_scatter.proofs.fill_by.Tie as tie
 
+-- the way back to the arguments
+abbrev begun : tie.After-count-duals → tie.Start
+begun s = s .before .before .before .before .before .before
+
 count-duals-requires : tie.Need-count-duals-requires
-count-duals-requires c κs = let pre = c .before .before .before .before .pre in scattering (pre .0) (pre .1) (pre .2)
+count-duals-requires c κs = let pre = c .before .before .before .before .before .pre in scattering (pre .0) (pre .1) (pre .2)
 
 gather-requires : tie.Need-gather-requires
 gather-requires c κs =
     let s = c .before .before .before .before in
-    let pre = s .before .before .before .before .before .pre in
+    let pre = begun s .pre in
     let x = pre .0 .terms-of .numbers in
     record {
       sizes = x .sizes;
@@ -28,23 +32,23 @@ gather-requires c κs =
 cast-row-zero : tie.Need-cast-row-zero
 cast-row-zero c =
     let s = c .before .before .before .before .before .before .before in
-    omega (arith, s .before .before .before .before .before .pre .0 .terms-of .numbers .few-duals)
+    omega (arith, begun s .pre .0 .terms-of .numbers .few-duals)
 
 shared-slice-read-row-zero : tie.Need-shared-slice-read-row-zero
 shared-slice-read-row-zero c =
     let s = c .before .before .before .before .before .before .before .before in
-    omega (arith, s .before .before .before .before .before .pre .0 .terms-of .numbers .long)
+    omega (arith, begun s .pre .0 .terms-of .numbers .long)
 
 mul-row-zero : tie.Need-mul-row-zero
 mul-row-zero c =
     let s = c .before .before .before .before .before .before .before .before in
-    omega (arith, all-le (s .before .before .before .before .before .pre .0 .terms-of .numbers))
+    omega (arith, all-le (begun s .pre .0 .terms-of .numbers))
 
 row-zero-requires : tie.Need-row-zero-requires
 row-zero-requires c κs =
     let s = c .before .before .before .before in
     let t = s .before .before .before .before .before in
-    let pre = t .before .before .before .before .before .pre .0 in
+    let pre = begun t .pre .0 in
     let h = pre .terms-of in
     let x = h .numbers .sizes in
     let g = s .gather .ensures in

@@ -2,13 +2,15 @@
 -- Assumes nothing.
 use Prim.Native.Nat.{_-_}
 use native.Mathlib.Omega.{arith}
+use Rattle.sizes.specs.Blocks.{stride}
+use Rattle.sizes.proofs.Lengths.{blocks-fit}
 use Rattle.matrix_terms.proofs.Rows.{ListedTo, listed-none, dual-in, row-in, listed-more, last-le, listed-long, listed-end}
 use borrow.Author.Needs.{needs}
 use Rattle.matrix_terms.proofs.list.Statement.{statement}
 use Rattle.matrix_terms.proofs.list.Tie as tie
 
 abbrev Inv-loop : tie.InvT-loop
-Inv-loop book p n duals terms₀ weight₀ l₀ terms weight l = ListedTo 128 book n duals terms₀ weight l terms
+Inv-loop book p n duals terms₀ weight₀ l₀ terms weight l = ListedTo (stride n) book n duals terms₀ weight l terms
 
 abbrev μ-loop : tie.MeasureT-loop
 μ-loop book p n duals terms₀ weight₀ l₀ terms weight l = duals - l
@@ -24,7 +26,7 @@ put-requires : tie.Need-put-requires Inv-loop μ-loop
 put-requires c κs = let pre = c .before .before .before .pre in (pre .0 .sizes .p-low, pre .0 .sizes .p-high, omega (arith, pre .1))
 
 loop-holds : tie.Need-loop-holds Inv-loop μ-loop
-loop-holds c = listed-none 128 _ _ _ _ _
+loop-holds c = listed-none _ _ _ _ _ _
 
 list-dual-requires : tie.Need-list-dual-requires Inv-loop μ-loop
 list-dual-requires c κs =
@@ -69,7 +71,7 @@ returns c =
     let a = put-made (c .before) in
     let pre = begun a .pre in
     let end = c .loop-test .left in (
-      listed-end (pre .0) (pre .1) (a .put .ensures) (c .before .loop .inv) end (omega (arith, pre .0 .sizes .n-high)),
+      listed-end (pre .0) (pre .1) (a .put .ensures) (c .before .loop .inv) end (omega (arith, blocks-fit (pre .0 .sizes .n-high))),
       listed-long (pre .0) (pre .1) (a .put .ensures) (c .before .loop .inv) end,
     )
 

@@ -1,104 +1,92 @@
--- `matrix_terms::product` meets its contract. The invariant: the table's places that the first i terms tell are summed.
+-- `matrix_terms::product` meets its contract. The invariant: the first b blocks have their sums.
 -- Assumes nothing.
-use Prim.Native.Nat.{_+_, _-_, _*_, _<_}
+use mathlib.Core.Path.{refl, sym, ap, _∙_, subst}
+use Prim.Native.Nat.{ℕ, _+_, _-_, _*_, _^_, _≤_}
 use native.Mathlib.Omega.{arith}
-use Rattle.matrix_terms.proofs.Summing.{wide-fits, startOf, Summing, summing-none, summing-more, summing-end}
-use Rattle.matrix_terms.proofs.Summing.{power-in, symbol-small, place-low, start-in, starts-of}
+use Rattle.sizes.proofs.Lengths.{shift-is}
+use Rattle.word_table.specs.Window.{Window}
+use Rattle.word_table.proofs.Window.{window-none, window-join, read-table}
+use Rattle.matrix_terms.specs.Sums.{termsSum, Summands}
+use Rattle.matrix_terms.proofs.Summing.{shift-high, row-summands, row-product}
 use borrow.Author.Needs.{needs}
 use Rattle.matrix_terms.proofs.product.Statement.{statement}
 use Rattle.matrix_terms.proofs.product.Tie as tie
 
 abbrev Inv-loop : tie.InvT-loop
-Inv-loop l p n duals terms t weight from sum₀ i₀ sum i = Summing 64 t (startOf 128 n terms l) weight i sum
+Inv-loop l p n duals terms t w₀ blocks shift from b₀ w b = (b ≤ blocks) × Window 0 (64 * b) (termsSum (128 * blocks) n terms from t) w₀ w
 
 abbrev μ-loop : tie.MeasureT-loop
-μ-loop l p n duals terms t weight from sum₀ i₀ sum i = weight - i
+μ-loop l p n duals terms t w₀ blocks shift from b₀ w b = blocks - b
 
--- the way back from the loop to the arguments
-abbrev begun : tie.At-loop Inv-loop μ-loop → tie.Start Inv-loop μ-loop
-begun s = s .before .before .before .before
+-- the way back from the lengths to the arguments
+abbrev begun : tie.After-shift Inv-loop μ-loop → tie.Start Inv-loop μ-loop
+begun a = a .before .before .before .before .before
 
--- term i is in the room
-row-in : (c : tie.In-loop Inv-loop μ-loop) → 192 + 64 * begun (c .before) .args .l + c .before .loop .i < 2240
-row-in c =
-    let pre = begun (c .before) .pre in
-    omega (arith, c .loop-test .taken, pre .1, pre .0 .few-duals, pre .0 .few, pre .0 .sizes .n-high)
+-- the terms of row l, and the rows of the table that they tell
+summands : (a : tie.After-shift Inv-loop μ-loop) →
+    Summands (128 * a .before .blocks2 .result) (64 * a .before .blocks2 .result) (begun a .args .n) (begun a .args .terms .now)
+    (192 + 64 * a .before .blocks2 .result * begun a .args .l) (begun a .args .t .now)
+summands a = let pre = begun a .pre in row-summands (pre .0) (pre .1) (a .before .blocks2 .ensures) (pre .2)
 
-shared-slice-read-weight : tie.Need-shared-slice-read-weight Inv-loop μ-loop
-shared-slice-read-weight c = omega (arith, c .before .before .before .pre .0 .long)
+blocks-requires : tie.Need-blocks-requires Inv-loop μ-loop
+blocks-requires c κs = search needs
 
-cast-weight : tie.Need-cast-weight Inv-loop μ-loop
-cast-weight c = wide-fits (c .shared-slice-known3 .given _)
+shift-requires : tie.Need-shift-requires Inv-loop μ-loop
+shift-requires c κs = search needs
 
 mul-from : tie.Need-mul-from Inv-loop μ-loop
-mul-from c = let pre = c .before .before .before .pre in omega (arith, pre .1, pre .0 .few-duals)
+mul-from c = search needs
+
+mul-from-2 : tie.Need-mul-from-2 Inv-loop μ-loop
+mul-from-2 c = omega (arith, summands c .within)
 
 add-from : tie.Need-add-from Inv-loop μ-loop
-add-from c = let pre = c .before .before .before .pre in omega (arith, pre .1, pre .0 .few-duals)
+add-from c = omega (arith, summands c .within)
 
 loop-holds : tie.Need-loop-holds Inv-loop μ-loop
-loop-holds c = summing-none 64 _ _ _
+loop-holds c = (search needs, window-none 0 _ _)
 
-add-term : tie.Need-add-term Inv-loop μ-loop
-add-term c = let pre = begun (c .before) .pre in omega (arith, row-in c, pre .0 .long)
+mul-product-block : tie.Need-mul-product-block Inv-loop μ-loop
+mul-product-block c = search needs
 
-mul-term : tie.Need-mul-term Inv-loop μ-loop
-mul-term c = search needs
+product-block-requires : tie.Need-product-block-requires Inv-loop μ-loop
+product-block-requires c κs =
+    let a = c .before .before in
+    let shift = a .shift .ensures in (
+      summands a,
+      ap (λ (s : ℕ). 2 ^ s) shift ∙ shift-is _ ∙ ap (λ (x : ℕ). 128 * x) (sym (a .before .blocks2 .ensures)),
+      subst (λ (s : ℕ). s ≤ 9) (sym shift) (shift-high _),
+      omega arith,
+    )
 
-shared-slice-read-term : tie.Need-shared-slice-read-term Inv-loop μ-loop
-shared-slice-read-term c = omega (arith, row-in (c .before), begun (c .before .before) .pre .0 .long)
+mul-put-block : tie.Need-mul-put-block Inv-loop μ-loop
+mul-put-block c = search needs
 
-cast-term : tie.Need-cast-term Inv-loop μ-loop
-cast-term c = wide-fits (c .shared-slice-known4 .given _)
+put-block-requires : tie.Need-put-block-requires Inv-loop μ-loop
+put-block-requires c κs = search needs
 
-add-c : tie.Need-add-c Inv-loop μ-loop
-add-c c = let pre = begun (c .before .before) .pre in omega (arith, power-in (pre .0) (pre .1) (c .before .loop-test .taken))
-
-mul-c : tie.Need-mul-c Inv-loop μ-loop
-mul-c c = let pre = begun (c .before .before) .pre in omega (arith, power-in (pre .0) (pre .1) (c .before .loop-test .taken))
-
-shared-slice-read-c : tie.Need-shared-slice-read-c Inv-loop μ-loop
-shared-slice-read-c c = let pre = begun (c .before .before .before) .pre in power-in (pre .0) (pre .1) (c .before .before .loop-test .taken)
-
-cast-c : tie.Need-cast-c Inv-loop μ-loop
-cast-c c = wide-fits (c .shared-slice-known5 .given _)
-
-mul-add-row : tie.Need-mul-add-row Inv-loop μ-loop
-mul-add-row c =
-    let pre = begun (c .before .before .before) .pre in
-    omega (arith, symbol-small (pre .0) (pre .1) (c .before .before .loop-test .taken), pre .0 .sizes .n-high)
-
-sub-add-row : tie.Need-sub-add-row Inv-loop μ-loop
-sub-add-row c = let pre = begun (c .before .before .before) .pre in omega (arith, place-low (pre .0) (pre .1) (c .before .before .loop-test .taken))
-
-add-add-row : tie.Need-add-add-row Inv-loop μ-loop
-add-add-row c =
-    let pre = begun (c .before .before .before) .pre in
-    omega (arith, symbol-small (pre .0) (pre .1) (c .before .before .loop-test .taken), pre .0 .sizes .n-high)
-
-add-row-requires : tie.Need-add-row-requires Inv-loop μ-loop
-add-row-requires c κs =
-    let s = c .before .before .before in
-    let pre = begun (s .before) .pre in
-    (start-in (pre .0) (pre .1) 64 (omega (arith, pre .0 .sizes .n-high)) (pre .2) (s .loop-test .taken), s .before .loop .inv .long)
-
-add-i : tie.Need-add-i Inv-loop μ-loop
-add-i c = search needs
+add-b : tie.Need-add-b Inv-loop μ-loop
+add-b c = search needs
 
 loop-less : tie.Need-loop-less Inv-loop μ-loop
 loop-less c = search needs
 
 loop-again : tie.Need-loop-again Inv-loop μ-loop
 loop-again c =
-    let s = c .before .before .before .before in
-    summing-more (s .before .loop .inv) (s .loop-test .taken) (c .add-row .ensures)
+    let s = c .before .before in
+    let t = s .before .before .before in
+    let sum = s .before .before .product-block .ensures in
+    (search needs, window-join (omega arith) (omega arith) (λ k l. refl) (λ k l. read-table _ sum l) (t .before .loop .inv .1) (s .put-block .ensures))
+
+same-length : tie.Need-same-length Inv-loop μ-loop
+same-length c = search needs
 
 returns : tie.Need-returns Inv-loop μ-loop
 returns c =
-    let pre = begun (c .before) .pre in
-    let high = pre .0 .sizes .n-high in
-    λ b row. summing-end (pre .0 .sizes) (omega (arith, high)) (omega (arith, high)) (row .symbol) (pre .2) (starts-of (pre .0) (pre .1) row)
-    (c .loop-test .left) (c .before .loop .inv)
+    let s = c .before in
+    let a = s .before in
+    let pre = begun a .pre in
+    λ b row. row-product (pre .0) (pre .1) (a .before .blocks2 .ensures) (pre .2) (s .loop .inv .0) (c .loop-test .left) (s .loop .inv .1) row
 
 pub product-spec : {M : Type 1} → statement M
 product-spec =
@@ -106,24 +94,18 @@ product-spec =
     (tie.spec
     Inv-loop
     μ-loop
-    shared-slice-read-weight
-    cast-weight
+    blocks-requires
+    shift-requires
     mul-from
+    mul-from-2
     add-from
     loop-holds
-    add-term
-    mul-term
-    shared-slice-read-term
-    cast-term
-    add-c
-    mul-c
-    shared-slice-read-c
-    cast-c
-    mul-add-row
-    sub-add-row
-    add-add-row
-    add-row-requires
-    add-i
+    mul-product-block
+    product-block-requires
+    mul-put-block
+    put-block-requires
+    add-b
     loop-less
     loop-again
+    same-length
     returns)

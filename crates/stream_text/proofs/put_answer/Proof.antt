@@ -13,14 +13,14 @@ put-requires c κs = search needs
 put-requires-2 : tie.Need-put-requires-2
 put-requires-2 c κs = search needs
 
-put-decimal-requires : tie.Need-put-decimal-requires
-put-decimal-requires c κs = search needs
+put-small-requires : tie.Need-put-small-requires
+put-small-requires c κs = search needs
 
 put-requires-3 : tie.Need-put-requires-3
 put-requires-3 c κs = search needs
 
-put-decimal-requires-2 : tie.Need-put-decimal-requires-2
-put-decimal-requires-2 c κs = search needs
+put-decimal-requires : tie.Need-put-decimal-requires
+put-decimal-requires c κs = search needs
 
 put-requires-4 : tie.Need-put-requires-4
 put-requires-4 c κs = search needs
@@ -44,17 +44,17 @@ returns c =
     let rounds = changed .before .before .before .before .before .before .before .before in
     let start = rounds .before .before .before .before .before .before .before .before in (
       printed-then (printed-then (printed-then (printed-then (printed-then (printed-then (printed-then
-          (start .put .ensures) (rounds .before .before .before .before .put2 .ensures)) (rounds .put-decimal .ensures .0))
+          (start .put .ensures) (rounds .before .before .before .before .put2 .ensures)) (rounds .put-small .ensures .0))
           (changed .before .before .before .before .put3 .ensures))
-          (changed .put-decimal2 .ensures .0)) (hex .before .before .before .before .put4 .ensures)) (hex .put-hex .ensures .0))
+          (changed .put-decimal .ensures .0)) (hex .before .before .before .before .put4 .ensures)) (hex .put-hex .ensures .0))
           (c .before .before .put5 .ensures),
       omega (
         arith,
         start .put .ensures .past,
         rounds .before .before .before .before .put2 .ensures .past,
-        rounds .put-decimal .ensures .1,
+        rounds .put-small .ensures .1,
         changed .before .before .before .before .put3 .ensures .past,
-        changed .put-decimal2 .ensures .1,
+        changed .put-decimal .ensures .1,
         hex .before .before .before .before .put4 .ensures .past,
         hex .put-hex .ensures .1,
         c .before .before .put5 .ensures .past,
@@ -67,9 +67,9 @@ put-answer-spec =
     (tie.spec
     put-requires
     put-requires-2
-    put-decimal-requires
+    put-small-requires
     put-requires-3
-    put-decimal-requires-2
+    put-decimal-requires
     put-requires-4
     put-hex-requires
     put-requires-5

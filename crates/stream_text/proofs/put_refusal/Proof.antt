@@ -13,8 +13,8 @@ put-requires c κs = search needs
 put-requires-2 : tie.Need-put-requires-2
 put-requires-2 c κs = search needs
 
-put-decimal-requires : tie.Need-put-decimal-requires
-put-decimal-requires c κs = search needs
+put-small-requires : tie.Need-put-small-requires
+put-small-requires c κs = search needs
 
 put-requires-3 : tie.Need-put-requires-3
 put-requires-3 c κs = search needs
@@ -28,10 +28,10 @@ returns c =
     let number = c .before .before .before .before .before .before in
     let space = number .before .before .before .before in
     let start = space .before .before .before .before in (
-      printed-then (printed-then (printed-then (start .put .ensures) (space .put2 .ensures)) (number .put-decimal .ensures .0))
+      printed-then (printed-then (printed-then (start .put .ensures) (space .put2 .ensures)) (number .put-small .ensures .0))
           (c .before .before .put3 .ensures),
-      omega (arith, start .put .ensures .past, space .put2 .ensures .past, number .put-decimal .ensures .1, c .before .before .put3 .ensures .past),
+      omega (arith, start .put .ensures .past, space .put2 .ensures .past, number .put-small .ensures .1, c .before .before .put3 .ensures .past),
     )
 
 pub put-refusal-spec : {M : Type 1} → statement M
-put-refusal-spec = tie.close (tie.spec put-requires put-requires-2 put-decimal-requires put-requires-3 same-length returns)
+put-refusal-spec = tie.close (tie.spec put-requires put-requires-2 put-small-requires put-requires-3 same-length returns)

@@ -2,7 +2,7 @@
 -- Assumes nothing.
 use native.Mathlib.Omega.{arith}
 use denote.Ref.{now}
-use Rattle.stream_words.proofs.Words.{line-answered, rounds-small, changed-small, line-refused, number-small}
+use Rattle.stream_words.proofs.Words.{line-answered, rounds-small, line-refused, number-small}
 use borrow.Author.Needs.{needs}
 use Rattle.stream_words.proofs.put_word.Statement.{statement}
 use Rattle.stream_words.proofs.put_word.Tie as tie
@@ -25,8 +25,7 @@ put-answer-requires c κs =
     let received = now (start .args .word) in
     let is = matched .said .given .1 in
     let rounds = rounds-small bytes _ (start .pre .0) received is (decoded .decode-word .ensures .0) in
-    let changed = changed-small bytes _ (start .pre .0) received is (decoded .decode-word .ensures .0) in
-    (omega arith, omega arith, omega arith)
+    (omega arith, omega arith)
 
 enum-known-said-2 : tie.Need-enum-known-said-2
 enum-known-said-2 c = search needs

@@ -12,19 +12,19 @@ use Rattle.word_array.proofs.add.Statement.{statement}
 use Rattle.word_array.proofs.add.Tie as tie
 
 abbrev Inv-loop : tie.InvT-loop
-Inv-loop n a b w₀ j₀ w j = (j ≤ n) × Held 63 j (λ j. bitXor (place a j) (place b j)) w
+Inv-loop n a b w₀ j₀ w j = (j ≤ n) × Held 255 j (λ j. bitXor (place a j) (place b j)) w
 
 abbrev μ-loop : tie.MeasureT-loop
 μ-loop n a b w₀ j₀ w j = n - j
 
 loop-holds : tie.Need-loop-holds Inv-loop μ-loop
-loop-holds c = (search needs, held-none 63 _)
+loop-holds c = (search needs, held-none 255 _)
 
-array-read-w : tie.Need-array-read-w Inv-loop μ-loop
-array-read-w c = search needs
+shared-slice-read-w : tie.Need-shared-slice-read-w Inv-loop μ-loop
+shared-slice-read-w c = search needs
 
-array-read-w-2 : tie.Need-array-read-w-2 Inv-loop μ-loop
-array-read-w-2 c = search needs
+shared-slice-read-w-2 : tie.Need-shared-slice-read-w-2 Inv-loop μ-loop
+shared-slice-read-w-2 c = search needs
 
 array-write-w : tie.Need-array-write-w Inv-loop μ-loop
 array-write-w c = search needs
@@ -36,7 +36,7 @@ loop-less : tie.Need-loop-less Inv-loop μ-loop
 loop-less c = search needs
 
 loop-again : tie.Need-loop-again Inv-loop μ-loop
-loop-again c = (search needs, held-more _ (omega arith) refl (c .before .loop .inv .1))
+loop-again c = (search needs, held-more _ (omega (arith, c .before .before .before .before .pre .0)) refl (c .before .before .before .loop .inv .1))
 
 returns : tie.Need-returns Inv-loop μ-loop
 returns c = held-end (omega arith) (c .before .loop .inv .1)
@@ -48,8 +48,8 @@ add-spec =
     Inv-loop
     μ-loop
     loop-holds
-    array-read-w
-    array-read-w-2
+    shared-slice-read-w
+    shared-slice-read-w-2
     array-write-w
     add-j
     loop-less

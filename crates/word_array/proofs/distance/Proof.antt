@@ -20,17 +20,19 @@ abbrev μ-loop : tie.MeasureT-loop
 loop-holds : tie.Need-loop-holds Inv-loop μ-loop
 loop-holds c = counted-none _ _
 
-array-read-count : tie.Need-array-read-count Inv-loop μ-loop
-array-read-count c = search needs
+shared-slice-read-count : tie.Need-shared-slice-read-count Inv-loop μ-loop
+shared-slice-read-count c = search needs
 
-array-read-count-2 : tie.Need-array-read-count-2 Inv-loop μ-loop
-array-read-count-2 c = search needs
+shared-slice-read-count-2 : tie.Need-shared-slice-read-count-2 Inv-loop μ-loop
+shared-slice-read-count-2 c = search needs
 
 cast-count : tie.Need-cast-count Inv-loop μ-loop
 cast-count c = search needs
 
 add-count : tie.Need-add-count Inv-loop μ-loop
-add-count c = search (needs, counted-byte (c .before .loop .inv) (search needs) (omega (arith, c .before .before .pre)))
+add-count c =
+    let small = c .before .before .before .before .pre .0 in
+    search (needs, counted-byte (c .before .before .before .loop .inv) (search needs) (omega arith))
 
 add-j : tie.Need-add-j Inv-loop μ-loop
 add-j c = search needs
@@ -39,10 +41,10 @@ loop-less : tie.Need-loop-less Inv-loop μ-loop
 loop-less c = search needs
 
 loop-again : tie.Need-loop-again Inv-loop μ-loop
-loop-again c = counted-more (c .before .loop .inv) (omega arith)
+loop-again c = counted-more (c .before .before .before .loop .inv) (omega arith)
 
 cast-result : tie.Need-cast-result Inv-loop μ-loop
-cast-result c = omega (arith, counted-end (c .before .loop .inv) (omega arith) .1, c .before .before .pre)
+cast-result c = omega (arith, counted-end (c .before .loop .inv) (omega arith) .1, c .before .before .pre .0)
 
 returns : tie.Need-returns Inv-loop μ-loop
 unfolding distance
@@ -55,8 +57,8 @@ distance-spec =
     Inv-loop
     μ-loop
     loop-holds
-    array-read-count
-    array-read-count-2
+    shared-slice-read-count
+    shared-slice-read-count-2
     cast-count
     add-count
     add-j

@@ -11,13 +11,13 @@ use Rattle.word_array.proofs.load.Statement.{statement}
 use Rattle.word_array.proofs.load.Tie as tie
 
 abbrev Inv-loop : tie.InvT-loop
-Inv-loop s start n w₀ j₀ w j = (j ≤ n) × Held 63 j (λ j. place s (start + j)) w
+Inv-loop s start n w₀ j₀ w j = (j ≤ n) × Held 255 j (λ j. place s (start + j)) w
 
 abbrev μ-loop : tie.MeasureT-loop
 μ-loop s start n w₀ j₀ w j = n - j
 
 loop-holds : tie.Need-loop-holds Inv-loop μ-loop
-loop-holds c = (search needs, held-none 63 _)
+loop-holds c = (search needs, held-none 255 _)
 
 add-w : tie.Need-add-w Inv-loop μ-loop
 add-w c = search needs

@@ -1,44 +1,63 @@
 -- `word_divide::divides_unity` meets its contract.
 -- Assumes nothing.
-use mathlib.Core.Path.{sym, _∙_}
-use native.Mathlib.Nat.{le-trans, le-of-eq}
-use Rattle.word_divide.proofs.Dividing.{dividend, padded-divided, unity-symbol, unity-test}
+use Rattle.sizes.proofs.Lengths.{blocks-one, blocks-high}
 use borrow.Author.Needs.{needs}
 use Rattle.word_divide.proofs.divides_unity.Statement.{statement}
 use Rattle.word_divide.proofs.divides_unity.Tie as tie
 
-unity-requires : tie.Need-unity-requires
-unity-requires c κs = search needs
+short-room-requires : tie.Need-short-room-requires
+short-room-requires c κs = search needs
 
-add-divide-in : tie.Need-add-divide-in
-add-divide-in c = search needs
+short-quotient-room-requires : tie.Need-short-quotient-room-requires
+short-quotient-room-requires c κs = search needs
 
-divide-in-requires : tie.Need-divide-in-requires
-divide-in-requires c κs =
-    let pre = c .before .before .before .pre in
-    let e = c .before .unity .ensures in
-    dividend (pre .0) (pre .1) (pre .2) (search needs) (search needs) (search needs) e (λ j l. unity-symbol (pre .0) j) (pre .3)
+slice-aggregate-divides-unity-in : tie.Need-slice-aggregate-divides-unity-in
+slice-aggregate-divides-unity-in c = search needs
 
-slice-aggregate-is-zero : tie.Need-slice-aggregate-is-zero
-slice-aggregate-is-zero c = sym (c .before .divide-in .ensures .long)
+slice-aggregate-divides-unity-in-2 : tie.Need-slice-aggregate-divides-unity-in-2
+slice-aggregate-divides-unity-in-2 c = search needs
 
-is-zero-requires : tie.Need-is-zero-requires
-is-zero-requires c κs = (search needs, le-trans (search needs) (le-of-eq (sym (c .before .divide-in .ensures .long))))
+divides-unity-in-requires : tie.Need-divides-unity-in-requires
+divides-unity-in-requires c κs =
+    let one = blocks-one (c .before .before .before .before .if1 .taken) in
+    search needs
 
 returns : tie.Need-returns
-returns c =
-    let s = c .before .before .before .before in
-    let pre = s .before .before .pre in
-    let parts = padded-divided (s .unity .ensures) (search needs) (pre .0) (pre .1) (c .before .before .divide-in .ensures) in
-    c .is-zero .ensures ∙ unity-test _ (parts .remains)
+returns c = search needs
+
+room-requires : tie.Need-room-requires
+room-requires c κs = search needs
+
+quotient-room-requires : tie.Need-quotient-room-requires
+quotient-room-requires c κs = search needs
+
+slice-aggregate-divides-unity-in-3 : tie.Need-slice-aggregate-divides-unity-in-3
+slice-aggregate-divides-unity-in-3 c = search needs
+
+slice-aggregate-divides-unity-in-4 : tie.Need-slice-aggregate-divides-unity-in-4
+slice-aggregate-divides-unity-in-4 c = search needs
+
+divides-unity-in-requires-2 : tie.Need-divides-unity-in-requires-2
+divides-unity-in-requires-2 c κs =
+    let four = blocks-high (c .before .before .before .before .before .before .args .n) in
+    search needs
+
+returns-2 : tie.Need-returns-2
+returns-2 c = search needs
 
 pub divides-unity-spec : {M : Type 1} → statement M
 divides-unity-spec =
     tie.close
     (tie.spec
-    unity-requires
-    add-divide-in
-    divide-in-requires
-    slice-aggregate-is-zero
-    is-zero-requires
-    returns)
+    short-room-requires
+    short-quotient-room-requires
+    slice-aggregate-divides-unity-in
+    slice-aggregate-divides-unity-in-2
+    divides-unity-in-requires
+    returns
+    room-requires
+    quotient-room-requires
+    slice-aggregate-divides-unity-in-3
+    slice-aggregate-divides-unity-in-4
+    divides-unity-in-requires-2
+    returns-2)

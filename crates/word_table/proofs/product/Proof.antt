@@ -1,64 +1,68 @@
--- `word_table::product` meets its contract. The invariant: the rows of the first u places are summed.
+-- `word_table::product` meets its contract. The invariant: b blocks of the sum are written.
 -- Assumes nothing.
 use Prim.Native.Nat.{_+_, _-_, _*_, _≤_}
+use mathlib.Core.Path.{_≡_, refl, _∙_}
 use native.Mathlib.Omega.{arith}
-use lib.ListN.{length}
+use Rattle.sizes.proofs.Lengths.{blocks-high}
 use Rattle.word_array.specs.Stored.{place}
-use Rattle.word_table.proofs.Sums.{Summing, summing-none, summing-more, summing-end}
+use Rattle.word_table.specs.Rows.{turnedSum}
+use Rattle.word_table.specs.Window.{Window}
+use Rattle.word_table.proofs.Window.{window-none, window-join, read-table}
 use borrow.Author.Needs.{needs}
 use Rattle.word_table.proofs.product.Statement.{statement}
 use Rattle.word_table.proofs.product.Tie as tie
 
 abbrev Inv-loop : tie.InvT-loop
-Inv-loop n count symbols start t sum₀ u₀ sum u = Summing 128 64 n count (λ u. place symbols (start + u)) t u sum
+Inv-loop n count symbols start t out₀ blocks b₀ out b =
+    (b ≤ blocks) × Window 0 (64 * b) (turnedSum (128 * blocks) n count (λ u. place symbols (start + u)) t) out₀ out
 
 abbrev μ-loop : tie.MeasureT-loop
-μ-loop n count symbols start t sum₀ u₀ sum u = count - u
+μ-loop n count symbols start t out₀ blocks b₀ out b = blocks - b
+
+blocks-requires : tie.Need-blocks-requires Inv-loop μ-loop
+blocks-requires c κs = search needs
 
 loop-holds : tie.Need-loop-holds Inv-loop μ-loop
-loop-holds c = summing-none 128 64 _ _ _ _
+loop-holds c = (search needs, window-none _ _ _)
 
-add-wide : tie.Need-add-wide Inv-loop μ-loop
-add-wide c = search needs
+mul-product-block : tie.Need-mul-product-block Inv-loop μ-loop
+mul-product-block c = search needs
 
-shared-slice-read-wide : tie.Need-shared-slice-read-wide Inv-loop μ-loop
-shared-slice-read-wide c = search needs
+product-block-requires : tie.Need-product-block-requires Inv-loop μ-loop
+product-block-requires c κs =
+    let s = c .before .before .before .before .before .before in
+    let e = c .before .before .blocks2 .ensures in
+    (rw e (s .pre .0), omega arith, omega (arith, e, blocks-high (s .args .n)))
 
-wide-requires : tie.Need-wide-requires Inv-loop μ-loop
-wide-requires c κs = search needs
+mul-put-block : tie.Need-mul-put-block Inv-loop μ-loop
+mul-put-block c = search needs
 
--- the row of the symbol read is in the table
-in-table : (c : tie.After-wide Inv-loop μ-loop) → 128 * c .wide .result + 128 ≤ length (c .before .before .before .before .before .before .args .t .now)
-in-table c =
-    let s = c .before .before .before .before .before .before .pre in
-    omega (arith, s .row _ (c .before .before .loop-test .taken), c .wide .ensures)
+put-block-requires : tie.Need-put-block-requires Inv-loop μ-loop
+put-block-requires c κs = search needs
 
-mul-add-row : tie.Need-mul-add-row Inv-loop μ-loop
-mul-add-row c = omega (arith, in-table c)
-
-sub-add-row : tie.Need-sub-add-row Inv-loop μ-loop
-sub-add-row c = search needs
-
-add-add-row : tie.Need-add-add-row Inv-loop μ-loop
-add-add-row c = omega (arith, in-table c, c .before .before .before .before .before .before .pre .fits)
-
-add-row-requires : tie.Need-add-row-requires Inv-loop μ-loop
-add-row-requires c κs = (
-  omega (arith, in-table (c .before), c .before .before .before .before .before .before .before .pre .fits),
-  c .before .before .before .before .loop .inv .long,
-)
-
-add-u : tie.Need-add-u Inv-loop μ-loop
-add-u c = search needs
+add-b : tie.Need-add-b Inv-loop μ-loop
+add-b c = search needs
 
 loop-less : tie.Need-loop-less Inv-loop μ-loop
 loop-less c = search needs
 
 loop-again : tie.Need-loop-again Inv-loop μ-loop
-loop-again c = summing-more (c .before .before .before .before .before .loop .inv) (omega arith) (c .before .before .wide .ensures) (c .add-row .ensures)
+loop-again c =
+    let product = c .before .before .before .before in
+    let now = product .before .before in (
+      search needs,
+      window-join (omega arith) (omega arith) (λ k l. refl) (λ k l. read-table _ (product .product-block .ensures) l) (now .loop .inv .1)
+          (c .before .before .put-block .ensures),
+    )
+
+same-length : tie.Need-same-length Inv-loop μ-loop
+same-length c = c .before .loop .inv .1 .long
 
 returns : tie.Need-returns Inv-loop μ-loop
-returns c = summing-end (c .before .loop .inv) (omega arith)
+returns c =
+    let e = c .before .before .blocks2 .ensures in
+    let all : c .before .loop .b ≡ c .before .before .blocks2 .result = omega arith in
+    rw (all ∙ e, e) at (c .before .loop .inv .1)
 
 pub product-spec : {M : Type 1} → statement M
 product-spec =
@@ -66,15 +70,14 @@ product-spec =
     (tie.spec
     Inv-loop
     μ-loop
+    blocks-requires
     loop-holds
-    add-wide
-    shared-slice-read-wide
-    wide-requires
-    mul-add-row
-    sub-add-row
-    add-add-row
-    add-row-requires
-    add-u
+    mul-product-block
+    product-block-requires
+    mul-put-block
+    put-block-requires
+    add-b
     loop-less
     loop-again
+    same-length
     returns)

@@ -1,78 +1,130 @@
--- `word_table::put_double` meets its contract.
+-- `word_table::put_double` meets its contract. The invariant: b blocks of row 2c are written; row c stands below them, as it was.
 -- Assumes nothing.
-use mathlib.Core.Path.{_≡_, sym, ap, _∙_, subst}
-use mathlib.Core.List.{List}
+use mathlib.Core.Path.{_≡_, refl, sym, ap, _∙_, subst}
 use Prim.Native.Nat.{ℕ, _+_, _*_, _-_, _^_, _≤_, _<_}
-use native.Mathlib.Nat.{le-refl}
+use native.Mathlib.Nat.{mul-le-mul-right}
 use native.Mathlib.Omega.{arith}
-use lib.ListN.{length, take, drop}
-use lib.Seq.{getD-take, getD-drop}
-use Rattle.spec_range.specs.Table.{padded}
 use Rattle.spec_field.specs.Symbols.{timesX}
-use Rattle.word_array.specs.Stored.{place, Stored}
-use Rattle.word_array.proofs.Filled.{read-padded}
-use Rattle.word_table.specs.Multiples.{entry, RowStored, RowPut}
+use Rattle.word_array.specs.Stored.{place}
+use Rattle.word_table.specs.Multiples.{entry}
+use Rattle.word_table.specs.Window.{Window}
+use Rattle.word_table.proofs.Window.{window-none, window-join, read-table}
+use Rattle.word_table.proofs.Rows.{rows-apart, row-put}
 use borrow.Author.Needs.{needs}
 use Rattle.word_table.proofs.put_double.Statement.{statement}
 use Rattle.word_table.proofs.put_double.Tie as tie
 
--- row c, copied off the part of t that starts there
-module _ {stride : ℕ} (c : ℕ) (t : List ℕ) {row : List ℕ} (fits : stride * c + stride ≤ length t)
-    (e : row ≡ padded stride stride (place (take (length t - stride * c) (drop (stride * c) t)))) where
-  row-is : (j : ℕ) → j < stride → place row j ≡ entry stride t c j
-  row-is j l =
-      read-padded _ e (le-refl stride) l ∙ getD-take (length t - stride * c) (drop (stride * c) t) j 0 (omega arith) ∙ getD-drop (stride * c) t j 0
+abbrev Inv-loop : tie.InvT-loop
+Inv-loop p blocks c t₀ from to b₀ t b = (b ≤ 2 * blocks) × Window to (64 * b) (λ j. timesX p (entry (128 * blocks) t₀ c j)) t₀ t
 
-  row-stored : {p : ℕ} → RowStored stride p c t → Stored p stride row
-  row-stored {p} h = record { symbol = λ j l. subst (λ (x : ℕ). x < 2 ^ p) (sym (row-is j l)) (h .symbol j l) }
+abbrev μ-loop : tie.MeasureT-loop
+μ-loop p blocks c t₀ from to b₀ t b = 2 * blocks - b
 
-  doubled-row : (p : ℕ) {t′ : List ℕ} {k : ℕ} → RowPut stride k (λ j. timesX p (place row j)) t t′ → RowPut stride k (λ j. timesX p (entry stride t c j)) t t′
-  doubled-row p h = record { long = h .long; row = λ j l. h .row j l ∙ ap (timesX p) (row-is j l); low = h .low; high = h .high }
-
-mul-from : tie.Need-mul-from
+mul-from : tie.Need-mul-from Inv-loop μ-loop
 mul-from c = search needs
 
-sub-extended : tie.Need-sub-extended
-sub-extended c = search needs
+mul-from-2 : tie.Need-mul-from-2 Inv-loop μ-loop
+mul-from-2 c = search needs
 
-part-extended-start : tie.Need-part-extended-start
-part-extended-start c = search needs
+mul-from-3 : tie.Need-mul-from-3 Inv-loop μ-loop
+mul-from-3 c = search needs
 
-part-extended-end : tie.Need-part-extended-end
-part-extended-end c = search needs
+mul-to : tie.Need-mul-to Inv-loop μ-loop
+mul-to c = search needs
 
-extended-requires : tie.Need-extended-requires
-extended-requires c κs = search needs
+mul-to-2 : tie.Need-mul-to-2 Inv-loop μ-loop
+mul-to-2 c = search needs
 
-mul-put-times-x : tie.Need-mul-put-times-x
+mul-to-3 : tie.Need-mul-to-3 Inv-loop μ-loop
+mul-to-3 c = let s = c .before in omega (arith, s .pre .5, mul-le-mul-right {m = 1} {n = 128 * s .args .blocks} (2 * s .args .c) (omega (arith, s .pre .3)))
+
+mul-to-4 : tie.Need-mul-to-4 Inv-loop μ-loop
+mul-to-4 c = search needs
+
+loop-holds : tie.Need-loop-holds Inv-loop μ-loop
+loop-holds c = (search needs, window-none _ _ _)
+
+mul-loop : tie.Need-mul-loop Inv-loop μ-loop
+mul-loop c = search needs
+
+mul-block : tie.Need-mul-block Inv-loop μ-loop
+mul-block c = search needs
+
+add-block : tie.Need-add-block Inv-loop μ-loop
+add-block c = search needs
+
+block-requires : tie.Need-block-requires Inv-loop μ-loop
+block-requires c κs = search needs
+
+-- the block that is read is one of row c
+row-is : (c : tie.After-block Inv-loop μ-loop) → let now = c .before .before .before in let s = now .before .before .args in
+    (k : ℕ) → k < 64 → place (c .block .result) k ≡ entry (128 * s .blocks) (s .t .now) (s .c) (64 * now .loop .b + k)
+row-is c k l =
+    let now = c .before .before .before in
+    let s = now .before .before in
+    let apart = rows-apart (128 * s .args .blocks) {b = s .args .c} {c = 2 * s .args .c} (omega (arith, s .pre .2)) in
+    read-table _ (c .block .ensures) l ∙ now .loop .inv .1 .low (2 * 64 * s .args .blocks * s .args .c + 64 * now .loop .b + k) (omega (arith, apart))
+    ∙ ap (place (s .args .t .now)) (omega arith)
+
+mul-put-times-x : tie.Need-mul-put-times-x Inv-loop μ-loop
 mul-put-times-x c = search needs
 
-put-times-x-requires : tie.Need-put-times-x-requires
+add-put-times-x : tie.Need-add-put-times-x Inv-loop μ-loop
+add-put-times-x c = search needs
+
+put-times-x-requires : tie.Need-put-times-x-requires Inv-loop μ-loop
 put-times-x-requires c κs =
-    let s = c .before .before .before .before .before in
-    let fits : 128 * s .args .c + 128 ≤ length (s .args .t .now) = omega (arith, s .pre .2, s .pre .3) in
-    (s .pre .0, s .pre .1, omega (arith, s .pre .3), row-stored (s .args .c) (s .args .t .now) fits (c .before .extended .ensures) (s .pre .4))
+    let s = c .before .before .before .before .before .before in (
+      s .pre .0,
+      s .pre .1,
+      search needs,
+      record { symbol = λ k l. subst (λ (x : ℕ). x < 2 ^ s .args .p) (sym (row-is (c .before) k l)) (s .pre .6 .symbol _ (omega arith)) },
+    )
 
-same-length : tie.Need-same-length
-same-length c = search needs
+add-b : tie.Need-add-b Inv-loop μ-loop
+add-b c = search needs
 
-returns : tie.Need-returns
-returns c =
-    let s = c .before .before .before .before in
-    let start = s .before .before .before .before in
-    doubled-row (start .args .c) (start .args .t .now) (omega (arith, start .pre .2, start .pre .3)) (s .extended .ensures) _
-    (c .before .before .put-times-x .ensures)
+loop-less : tie.Need-loop-less Inv-loop μ-loop
+loop-less c = search needs
+
+loop-again : tie.Need-loop-again Inv-loop μ-loop
+loop-again c =
+    let block = c .before .before .before .before in
+    let now = block .before .before .before in (
+      search needs,
+      window-join refl (omega arith) (λ k l. refl) (λ k l. ap (timesX (now .before .before .args .p)) (row-is block k l)) (now .loop .inv .1)
+          (c .before .before .put-times-x .ensures),
+    )
+
+same-length : tie.Need-same-length Inv-loop μ-loop
+same-length c = c .before .loop .inv .1 .long
+
+returns : tie.Need-returns Inv-loop μ-loop
+returns c = row-put refl (omega arith) (c .before .loop .inv .1)
 
 pub put-double-spec : {M : Type 1} → statement M
 put-double-spec =
     tie.close
     (tie.spec
+    Inv-loop
+    μ-loop
     mul-from
-    sub-extended
-    part-extended-start
-    part-extended-end
-    extended-requires
+    mul-from-2
+    mul-from-3
+    mul-to
+    mul-to-2
+    mul-to-3
+    mul-to-4
+    loop-holds
+    mul-loop
+    mul-block
+    add-block
+    block-requires
     mul-put-times-x
+    add-put-times-x
     put-times-x-requires
+    add-b
+    loop-less
+    loop-again
     same-length
     returns)

@@ -1,65 +1,47 @@
--- `word_table::put_first_rows` meets its contract. The invariant: the places of rows 0 and 1 below j are written.
+-- `word_table::put_first_rows` meets its contract.
 -- Assumes nothing.
-use mathlib.Core.Path.{_≡_, refl}
-use Prim.Native.Nat.{_-_, _≤_}
 use native.Mathlib.Omega.{arith}
-use Rattle.word_table.specs.Multiples.{Begun}
-use Rattle.word_table.proofs.Rows.{begun-none, begun-room, begun-more}
+use Rattle.sizes.proofs.Lengths.{blocks-fit}
+use Rattle.word_table.proofs.Rows.{begun}
 use borrow.Author.Needs.{needs}
 use Rattle.word_table.proofs.put_first_rows.Statement.{statement}
 use Rattle.word_table.proofs.put_first_rows.Tie as tie
 
-abbrev Inv-loop : tie.InvT-loop
-Inv-loop t₀ d j₀ t j = (j ≤ 128) × Begun 128 j d t₀ t
+blocks-requires : tie.Need-blocks-requires
+blocks-requires c κs = search needs
 
-abbrev μ-loop : tie.MeasureT-loop
-μ-loop t₀ d j₀ t j = 128 - j
+mul-clear : tie.Need-mul-clear
+mul-clear c = search needs
 
-loop-holds : tie.Need-loop-holds Inv-loop μ-loop
-loop-holds c = (search needs, begun-none 128 _ _)
+clear-requires : tie.Need-clear-requires
+clear-requires c κs = search needs
 
-slice-write-t : tie.Need-slice-write-t Inv-loop μ-loop
-slice-write-t c = search needs
+mul-lay : tie.Need-mul-lay
+mul-lay c = search needs
 
-array-read-t : tie.Need-array-read-t Inv-loop μ-loop
-array-read-t c = search needs
+mul-lay-2 : tie.Need-mul-lay-2
+mul-lay-2 c = search needs
 
-add-t : tie.Need-add-t Inv-loop μ-loop
-add-t c = search needs
+lay-requires : tie.Need-lay-requires
+lay-requires c κs = let fits = blocks-fit (c .before .before .before .before .before .before .before .before .pre .1) in search needs
 
-slice-write-t-2 : tie.Need-slice-write-t-2 Inv-loop μ-loop
-slice-write-t-2 c = begun-room _ _ (c .before .loop .inv .1) (omega (arith, c .before .before .pre))
+same-length : tie.Need-same-length
+same-length c = search needs
 
-add-j : tie.Need-add-j Inv-loop μ-loop
-add-j c = search needs
-
-loop-less : tie.Need-loop-less Inv-loop μ-loop
-loop-less c = search needs
-
-loop-again : tie.Need-loop-again Inv-loop μ-loop
-loop-again c = (search needs, begun-more _ _ (search needs) (c .before .before .pre) refl refl (c .before .loop .inv .1))
-
-same-length : tie.Need-same-length Inv-loop μ-loop
-same-length c = c .before .loop .inv .1 .long
-
-returns : tie.Need-returns Inv-loop μ-loop
+returns : tie.Need-returns
 returns c =
-    let e : c .before .loop .j ≡ 128 = omega arith in
-    rw e at (c .before .loop .inv .1)
+    let e = c .before .before .before .before .before .before .before .before .blocks2 .ensures in
+    begun (omega (arith, e)) (omega (arith, e)) (c .before .before .before .before .before .before .clear .ensures) (c .before .before .lay .ensures)
 
 pub put-first-rows-spec : {M : Type 1} → statement M
 put-first-rows-spec =
     tie.close
     (tie.spec
-    Inv-loop
-    μ-loop
-    loop-holds
-    slice-write-t
-    array-read-t
-    add-t
-    slice-write-t-2
-    add-j
-    loop-less
-    loop-again
+    blocks-requires
+    mul-clear
+    clear-requires
+    mul-lay
+    mul-lay-2
+    lay-requires
     same-length
     returns)

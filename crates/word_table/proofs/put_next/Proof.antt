@@ -1,26 +1,34 @@
--- `word_table::put_next` meets its contract. The invariant: the places of row 2c + 1 below j are written; row 2c stands below them, as it was.
+-- `word_table::put_next` meets its contract. The invariant: b blocks of row 2c + 1 are written; rows 1 and 2c stand below them, as they were.
 -- Assumes nothing.
-use mathlib.Core.Path.{ap}
-use Prim.Native.Nat.{ℕ, _+_, _*_, _-_, _≤_}
+use mathlib.Core.Path.{refl, ap, ap₂, _∙_}
+use Prim.Native.Nat.{_+_, _*_, _-_, _≤_}
+use native.Mathlib.Nat.{mul-le-mul-right}
 use native.Mathlib.Omega.{arith}
 use lib.Bits.{bitXor}
 use Rattle.word_array.specs.Stored.{place}
 use Rattle.word_table.specs.Multiples.{entry}
 use Rattle.word_table.specs.Window.{Window}
-use Rattle.word_table.proofs.Window.{window-none, window-more}
-use Rattle.word_table.proofs.Rows.{row-put}
+use Rattle.word_table.proofs.Window.{window-none, window-join, read-table}
+use Rattle.word_table.proofs.Rows.{rows-apart, row-put}
 use borrow.Author.Needs.{needs}
 use Rattle.word_table.proofs.put_next.Statement.{statement}
 use Rattle.word_table.proofs.put_next.Tie as tie
 
 abbrev Inv-loop : tie.InvT-loop
-Inv-loop c t₀ d from to j₀ t j = (j ≤ 128) × Window to j (λ j. bitXor (entry 128 t₀ (2 * c) j) (place d j)) t₀ t
+Inv-loop blocks c t₀ first from to b₀ t b =
+    (b ≤ 2 * blocks) × Window to (64 * b) (λ j. bitXor (entry (128 * blocks) t₀ (2 * c) j) (entry (128 * blocks) t₀ 1 j)) t₀ t
 
 abbrev μ-loop : tie.MeasureT-loop
-μ-loop c t₀ d from to j₀ t j = 128 - j
+μ-loop blocks c t₀ first from to b₀ t b = 2 * blocks - b
+
+mul-first : tie.Need-mul-first Inv-loop μ-loop
+mul-first c = search needs
+
+mul-first-2 : tie.Need-mul-first-2 Inv-loop μ-loop
+mul-first-2 c = search needs
 
 mul-from : tie.Need-mul-from Inv-loop μ-loop
-mul-from c = search needs
+mul-from c = let s = c .before in omega (arith, s .pre .3, mul-le-mul-right {m = 1} {n = 128 * s .args .blocks} (2 * s .args .c + 1) (omega (arith, s .pre .1)))
 
 mul-from-2 : tie.Need-mul-from-2 Inv-loop μ-loop
 mul-from-2 c = search needs
@@ -31,33 +39,57 @@ add-to c = search needs
 loop-holds : tie.Need-loop-holds Inv-loop μ-loop
 loop-holds c = (search needs, window-none _ _ _)
 
-add-t : tie.Need-add-t Inv-loop μ-loop
-add-t c = search needs
+mul-loop : tie.Need-mul-loop Inv-loop μ-loop
+mul-loop c = search needs
 
-slice-read-t : tie.Need-slice-read-t Inv-loop μ-loop
-slice-read-t c = search needs
+mul-block : tie.Need-mul-block Inv-loop μ-loop
+mul-block c = search needs
 
-array-read-t : tie.Need-array-read-t Inv-loop μ-loop
-array-read-t c = search needs
+add-block : tie.Need-add-block Inv-loop μ-loop
+add-block c = search needs
 
-add-t-2 : tie.Need-add-t-2 Inv-loop μ-loop
-add-t-2 c = search needs
+block-requires : tie.Need-block-requires Inv-loop μ-loop
+block-requires c κs = search needs
 
-slice-write-t : tie.Need-slice-write-t Inv-loop μ-loop
-slice-write-t c = search needs
+mul-block-2 : tie.Need-mul-block-2 Inv-loop μ-loop
+mul-block-2 c = search needs
 
-add-j : tie.Need-add-j Inv-loop μ-loop
-add-j c = search needs
+add-block-2 : tie.Need-add-block-2 Inv-loop μ-loop
+add-block-2 c = search needs
+
+block-requires-2 : tie.Need-block-requires-2 Inv-loop μ-loop
+block-requires-2 c κs = search needs
+
+mul-put-sum : tie.Need-mul-put-sum Inv-loop μ-loop
+mul-put-sum c = search needs
+
+add-put-sum : tie.Need-add-put-sum Inv-loop μ-loop
+add-put-sum c = search needs
+
+put-sum-requires : tie.Need-put-sum-requires Inv-loop μ-loop
+put-sum-requires c κs = search needs
+
+add-b : tie.Need-add-b Inv-loop μ-loop
+add-b c = search needs
 
 loop-less : tie.Need-loop-less Inv-loop μ-loop
 loop-less c = search needs
 
 loop-again : tie.Need-loop-again Inv-loop μ-loop
 loop-again c =
-    let start = c .before .before .before .args in
-    let l = c .before .before .loop in
-    let kept = l .inv .1 .low (128 * (2 * start .c) + l .j) (omega arith) in
-    (search needs, window-more _ (omega arith) (ap (λ (x : ℕ). bitXor x (place (start .t2) (l .j))) kept) (l .inv .1))
+    let second = c .before .before .before .before in
+    let first = second .before .before in
+    let now = first .before .before .before in
+    let s = now .before .before in
+    let apart = rows-apart (128 * s .args .blocks) {b = 0} {c = 2 * s .args .c} (omega (arith, s .pre .0)) in (
+      search needs,
+      window-join refl (omega arith) (λ k l. refl)
+          (λ k l. ap₂ bitXor
+          (read-table _ (first .block .ensures) l ∙ now .loop .inv .1 .low _ (omega (arith, apart)) ∙ ap (place (s .args .t .now)) (omega arith))
+          (read-table _ (second .block2 .ensures) l ∙ now .loop .inv .1 .low _ (omega (arith, apart)) ∙ ap (place (s .args .t .now)) (omega arith)))
+          (now .loop .inv .1)
+          (c .before .before .put-sum .ensures),
+    )
 
 same-length : tie.Need-same-length Inv-loop μ-loop
 same-length c = c .before .loop .inv .1 .long
@@ -71,16 +103,23 @@ put-next-spec =
     (tie.spec
     Inv-loop
     μ-loop
+    mul-first
+    mul-first-2
     mul-from
     mul-from-2
     add-to
     loop-holds
-    add-t
-    slice-read-t
-    array-read-t
-    add-t-2
-    slice-write-t
-    add-j
+    mul-loop
+    mul-block
+    add-block
+    block-requires
+    mul-block-2
+    add-block-2
+    block-requires-2
+    mul-put-sum
+    add-put-sum
+    put-sum-requires
+    add-b
     loop-less
     loop-again
     same-length

@@ -1,24 +1,21 @@
--- `word_table::put_times_x` meets its contract. The invariant: the places of the row below j are written.
+-- `word_table::put_times_x` meets its contract. The invariant: the places below `to + j` are written.
 -- Assumes nothing.
 use Prim.Native.Nat.{_-_, _≤_}
+use mathlib.Core.Path.{_≡_}
 use native.Mathlib.Omega.{arith}
-use Rattle.spec_field.specs.Symbols.{timesX}
 use Rattle.word_array.specs.Stored.{place}
 use Rattle.word_table.specs.Window.{Window}
 use Rattle.word_table.proofs.Window.{window-none, window-more}
-use Rattle.word_table.proofs.Rows.{row-put}
+use Rattle.spec_field.specs.Symbols.{timesX}
 use borrow.Author.Needs.{needs}
 use Rattle.word_table.proofs.put_times_x.Statement.{statement}
 use Rattle.word_table.proofs.put_times_x.Tie as tie
 
 abbrev Inv-loop : tie.InvT-loop
-Inv-loop p c t₀ row to j₀ t j = (j ≤ 128) × Window to j (λ j. timesX p (place row j)) t₀ t
+Inv-loop p to t₀ row j₀ t j = (j ≤ 64) × Window to j (λ j. timesX p (place row j)) t₀ t
 
 abbrev μ-loop : tie.MeasureT-loop
-μ-loop p c t₀ row to j₀ t j = 128 - j
-
-mul-to : tie.Need-mul-to Inv-loop μ-loop
-mul-to c = search needs
+μ-loop p to t₀ row j₀ t j = 64 - j
 
 loop-holds : tie.Need-loop-holds Inv-loop μ-loop
 loop-holds c = (search needs, window-none _ _ _)
@@ -48,7 +45,7 @@ same-length : tie.Need-same-length Inv-loop μ-loop
 same-length c = c .before .loop .inv .1 .long
 
 returns : tie.Need-returns Inv-loop μ-loop
-returns c = row-put (omega arith) (omega arith) (c .before .loop .inv .1)
+returns c = let e : c .before .loop .j ≡ 64 = omega arith in rw e at (c .before .loop .inv .1)
 
 pub put-times-x-spec : {M : Type 1} → statement M
 put-times-x-spec =
@@ -56,7 +53,6 @@ put-times-x-spec =
     (tie.spec
     Inv-loop
     μ-loop
-    mul-to
     loop-holds
     array-read-double
     double-requires

@@ -1,24 +1,27 @@
 -- `word_table::tabulate` meets its contract. The invariant: the rows below 2c are put, and the length is as before.
 -- Assumes nothing.
 use mathlib.Core.Path.{_≡_, refl, _∙_}
-use Prim.Native.Nat.{_*_, _-_, _^_, _≤_}
+use Prim.Native.Nat.{_+_, _*_, _-_, _^_, _≤_}
 use native.Mathlib.Omega.{arith}
 use lib.ListN.{length}
 use lib.Pow.{pow-pos, pow-mono}
+use Rattle.sizes.specs.Blocks.{stride}
+use Rattle.sizes.proofs.Lengths.{blocks-low, blocks-high, blocks-fit}
 use Rattle.spec_field.proofs.Doubling.{next-below}
-use Rattle.word_table.proofs.Rows.{Rows, whole, as-whole, rows-first, rows-stored, rows-double, rows-end}
+use Rattle.word_table.specs.Multiples.{entry}
+use Rattle.word_table.proofs.Rows.{Rows, rows-apart, whole, as-whole, rows-first, rows-stored, rows-double, rows-end}
 use borrow.Author.Needs.{needs}
 use Rattle.word_table.proofs.tabulate.Statement.{statement}
 use Rattle.word_table.proofs.tabulate.Tie as tie
 
 abbrev Inv-loop : tie.InvT-loop
-Inv-loop p n t₀ d q c₀ t c = (1 ≤ c) × (c ≤ q) × (length t ≡ length t₀) × Rows 128 p (2 * c) (λ x. x) d t
+Inv-loop p n s from t₀ blocks q c₀ t c = (1 ≤ c) × (c ≤ q) × (length t ≡ length t₀) × Rows (stride n) p (2 * c) (λ x. x) (entry (stride n) t₀ 1) t
 
 abbrev μ-loop : tie.MeasureT-loop
-μ-loop p n t₀ d q c₀ t c = q - c
+μ-loop p n s from t₀ blocks q c₀ t c = q - c
 
-doubled-requires : tie.Need-doubled-requires Inv-loop μ-loop
-doubled-requires c κs = search needs
+blocks-requires : tie.Need-blocks-requires Inv-loop μ-loop
+blocks-requires c κs = search needs
 
 order-requires : tie.Need-order-requires Inv-loop μ-loop
 order-requires c κs = search needs
@@ -28,19 +31,19 @@ wide-requires c κs = search needs
 
 put-first-rows-requires : tie.Need-put-first-rows-requires Inv-loop μ-loop
 put-first-rows-requires c κs =
-    let s = c .before .before .before .before .before .pre in
-    let two : 2 ^ 1 ≤ 2 ^ _ = pow-mono (s .0 .p-low) in
-    omega (arith, two, s .2)
+    let s = c .before .before .before .before .before .before in
+    let two = rows-apart (stride (s .args .n)) {b = 1} {c = 2 ^ s .args .p} (pow-mono {i = 1} (s .pre .0 .p-low)) in
+    (s .pre .0 .n-low, s .pre .0 .n-high, s .pre .1, omega (arith, two, s .pre .3))
 
 loop-holds : tie.Need-loop-holds Inv-loop μ-loop
 loop-holds c =
     let put = c .before .before in
     let wide = put .before .before in
-    let start = wide .before .before .before .before in (
+    let s = wide .before .before .before .before .before in (
       search needs,
-      omega (arith, pow-pos (start .args .p), wide .wide .ensures ∙ wide .before .order .ensures),
+      omega (arith, pow-pos (s .args .p), wide .wide .ensures ∙ wide .before .order .ensures),
       refl,
-      rows-first (start .pre .0) (whole (wide .before .before .doubled .ensures)) (put .put-first-rows .ensures),
+      rows-first (s .pre .0) (put .put-first-rows .ensures) (whole (put .put-first-rows .ensures) (s .pre .2)),
     )
 
 mul-loop : tie.Need-mul-loop Inv-loop μ-loop
@@ -51,12 +54,17 @@ put-double-requires c κs =
     let now = c .before .before in
     let put = now .before .before .before in
     let wide = put .before .before in
-    let s = wide .before .before .before .before .pre in (
-      s .0 .p-low,
-      s .0 .p-high,
+    let s = wide .before .before .before .before .before in
+    let q = wide .wide .ensures ∙ wide .before .order .ensures in
+    let apart = rows-apart (stride (s .args .n)) {b = 2 * now .loop .c} {c = 2 ^ s .args .p} (omega (arith, q, c .before .loop-test .taken)) in
+    rw (wide .before .before .blocks2 .ensures) (
+      s .pre .0 .p-low,
+      s .pre .0 .p-high,
       now .loop .inv .0,
-      omega (arith, s .2, put .put-first-rows .ensures .long, now .loop .inv .2, wide .wide .ensures ∙ wide .before .order .ensures),
-      rows-stored (s .0) (now .loop .inv .0) (now .loop .inv .3),
+      blocks-low (s .args .n),
+      blocks-high (s .args .n),
+      omega (arith, apart, s .pre .3, put .put-first-rows .ensures .long, now .loop .inv .2),
+      rows-stored (s .pre .0) (now .loop .inv .0) (now .loop .inv .3),
     )
 
 put-next-requires : tie.Need-put-next-requires Inv-loop μ-loop
@@ -65,15 +73,15 @@ put-next-requires c κs =
     let now = double .before .before .before in
     let put = now .before .before .before in
     let wide = put .before .before in
-    let start = wide .before .before .before .before in
+    let s = wide .before .before .before .before .before in
     let q = wide .wide .ensures ∙ wide .before .order .ensures in
-    omega (
-      arith,
-      next-below (start .args .p) (now .loop .c) (start .pre .0 .p-low) (omega (arith, q)),
-      start .pre .2,
-      put .put-first-rows .ensures .long,
-      now .loop .inv .2,
-      double .put-double .ensures .long,
+    let below = next-below (s .args .p) (now .loop .c) (s .pre .0 .p-low) (omega (arith, q, double .before .before .loop-test .taken)) in
+    let apart = rows-apart (stride (s .args .n)) {b = 2 * now .loop .c + 1} {c = 2 ^ s .args .p} below in
+    rw (wide .before .before .blocks2 .ensures) (
+      now .loop .inv .0,
+      blocks-low (s .args .n),
+      blocks-high (s .args .n),
+      omega (arith, apart, s .pre .3, put .put-first-rows .ensures .long, now .loop .inv .2, double .put-double .ensures .long),
     )
 
 add-c : tie.Need-add-c Inv-loop μ-loop
@@ -87,16 +95,18 @@ loop-again c =
     let next = c .before .before in
     let double = next .before .before .before .before in
     let now = double .before .before .before in
-    let wide = now .before .before .before .before .before in
-    let s = wide .before .before .before .before .pre in (
+    let put = now .before .before .before in
+    let wide = put .before .before in
+    let s = wide .before .before .before .before .before .pre in
+    let e = wide .before .before .blocks2 .ensures in (
       search needs,
       search needs,
       next .put-next .ensures .long ∙ double .put-double .ensures .long ∙ now .loop .inv .2,
-      rows-double (s .0) (whole (wide .before .before .doubled .ensures)) (now .loop .inv .0) (now .loop .inv .3)
-          (omega (arith, wide .wide .ensures ∙ wide .before .order .ensures))
-          (double .put-double .ensures)
+      rows-double (s .0) (whole (put .put-first-rows .ensures) (s .2)) (now .loop .inv .0) (now .loop .inv .3)
+          (omega (arith, wide .wide .ensures ∙ wide .before .order .ensures, double .before .before .loop-test .taken))
+          (rw e at (double .put-double .ensures))
           (λ j l. refl)
-          (next .put-next .ensures),
+          (rw e at (next .put-next .ensures)),
     )
 
 same-length : tie.Need-same-length Inv-loop μ-loop
@@ -107,10 +117,10 @@ returns c =
     let now = c .before .loop in
     let put = c .before .before .before .before in
     let wide = put .before .before in
-    let s = wide .before .before .before .before .pre in
-    let two = wide .before .before .doubled .ensures in
-    rows-end (s .0) (whole two) (omega (arith, s .0 .n-high)) (now .inv .3) (omega (arith, wide .wide .ensures ∙ wide .before .order .ensures)) two (as-whole _)
-    (as-whole _) (s .2) (now .inv .2 ∙ put .put-first-rows .ensures .long)
+    let s = wide .before .before .before .before .before .pre in
+    let first = put .put-first-rows .ensures in
+    rows-end (s .0) first (whole first (s .2)) (omega (arith, blocks-fit (s .0 .n-high))) (now .inv .3)
+    (omega (arith, wide .wide .ensures ∙ wide .before .order .ensures, c .loop-test .left)) (as-whole _) (s .3) (now .inv .2 ∙ first .long)
 
 pub tabulate-spec : {M : Type 1} → statement M
 tabulate-spec =
@@ -118,7 +128,7 @@ tabulate-spec =
     (tie.spec
     Inv-loop
     μ-loop
-    doubled-requires
+    blocks-requires
     order-requires
     wide-requires
     put-first-rows-requires

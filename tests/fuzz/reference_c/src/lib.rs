@@ -106,7 +106,7 @@ pub unsafe extern "C" fn reference_decode(
 ///
 /// # Safety
 ///
-/// Behind the pointer 2118 bytes may be written.
+/// Behind the pointer 8454 bytes may be written.
 #[no_mangle]
 pub unsafe extern "C" fn reference_shelf(number: usize, book: *mut u8) -> usize {
     let bytes = shelf::book(number).unwrap_or_default();

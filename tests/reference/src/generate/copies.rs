@@ -12,14 +12,6 @@ pub fn from_place(field: Field, word: &[u8], place: usize) -> Option<Vec<u8>> {
     Some(word::scale(field, &turned, inverse))
 }
 
-/// All words that are alike to a nonzero one and have 1 at place 0, from
-/// each of its places; some of them may be equal.
-fn copies(field: Field, word: &[u8]) -> Vec<Vec<u8>> {
-    (0..word.len())
-        .filter_map(|place| from_place(field, word, place))
-        .collect()
-}
-
 /// In which way one word is a copy of another, if it is one: the fewest of
 /// turning and scaling that do. Unlike `word::alike` it makes every word.
 pub fn likeness(field: Field, a: &[u8], b: &[u8]) -> Option<&'static str> {
@@ -46,9 +38,10 @@ pub fn unlike(field: Field, words: &[Vec<u8>], most: usize, random: &mut Random)
         if chosen.len() == most {
             break;
         }
-        let mut copies = copies(field, word);
-        if !copies.iter().any(|copy| chosen.contains(copy)) {
-            chosen.push(copies.swap_remove(random.below(copies.len())));
+        if !chosen.iter().any(|known| word::alike(field, known, word)) {
+            let places: Vec<usize> = (0..word.len()).filter(|&j| word[j] != 0).collect();
+            let place = places[random.below(places.len())];
+            chosen.extend(from_place(field, word, place));
         }
     }
     chosen

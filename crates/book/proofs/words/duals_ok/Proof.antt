@@ -16,7 +16,7 @@ returns c =
 products-vanish-requires : tie.Need-products-vanish-requires
 products-vanish-requires c κs =
     let h = c .before .before .before .before .pre in
-    (tested (h .0) (h .1), table (h .0 .sized .n-high) (h .2))
+    (tested (h .0) (h .1), table (h .2))
 
 returns-2 : tie.Need-returns-2
 returns-2 c =

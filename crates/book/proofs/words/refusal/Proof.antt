@@ -2,34 +2,31 @@
 -- Assumes nothing.
 use mathlib.Core.Path.{_≡_, _∙_}
 use mathlib.Core.Bool.{true}
-use Rattle.spec_book.specs.Layout.{width, fieldOf, bookOf}
+use Rattle.spec_book.specs.Layout.{fieldOf, bookOf}
 use Rattle.spec_book.specs.Conditions.{generatorOk, limitsOk, dualsOk, bookRefusal}
 use Rattle.book_records.proofs.Tested.{failed, passed}
-use Rattle.book.proofs.Reading.{read-sizes}
 use Rattle.book.proofs.DualWords.{comparable, distinct-test}
-use Rattle.book.proofs.Gathering.{gathered-degree, gathered-word, gathered-generator, gathered-limits}
+use Rattle.book.proofs.Gathering.{gathered-limits}
 use borrow.Author.Needs.{needs}
 use Rattle.book.proofs.words.refusal.Statement.{statement}
 use Rattle.book.proofs.words.refusal.Tie as tie
 
 generator-ok-requires : tie.Need-generator-ok-requires
-generator-ok-requires c κs =
-    let h = c .before .before .pre in
-    (read-sizes (h .read), gathered-degree h, h .table .multiples, gathered-word h)
+generator-ok-requires c κs = c .before .before .pre
 
 returns : tie.Need-returns
 unfolding bookRefusal
 returns c =
     let s = c .before in
-    rw (failed (s .generator-ok .ensures ∙ gathered-generator (s .before .before .before .pre)) (c .if1 .taken))
+    rw (failed (s .generator-ok .ensures) (c .if1 .taken))
 
 -- the tests that were passed
-generates : (c : tie.Else1) → let book = c .before .before .before .before .args .book .now in generatorOk (fieldOf book) (bookOf width book) ≡ true
+generates : (c : tie.Else1) → let book = c .before .before .before .before .args .book .now in generatorOk (fieldOf book) (bookOf book) ≡ true
 generates c =
     let s = c .before in
-    passed (s .generator-ok .ensures ∙ gathered-generator (s .before .before .before .pre)) (c .if1 .left)
+    passed (s .generator-ok .ensures) (c .if1 .left)
 
-limited : (c : tie.Else2) → let book = c .before .before .before .before .before .before .args .book .now in limitsOk (fieldOf book) (bookOf width book) ≡ true
+limited : (c : tie.Else2) → let book = c .before .before .before .before .before .before .args .book .now in limitsOk (fieldOf book) (bookOf book) ≡ true
 limited c =
     let s = c .before in
     passed (s .limits-ok .ensures ∙ gathered-limits (s .before .before .before .before .before .pre)) (c .if2 .left)
@@ -53,7 +50,7 @@ returns-3 c =
     rw (generates (s .before .before), limited s, failed (c .before .duals-ok .ensures) (c .if3 .taken))
 
 -- the condition 7 was passed, too
-dual-words : (c : tie.Else3) → let book = c .before .before .before .before .before .before .before .before .args .book .now in dualsOk (fieldOf book) (bookOf width book) ≡ true
+dual-words : (c : tie.Else3) → let book = c .before .before .before .before .before .before .before .before .args .book .now in dualsOk (fieldOf book) (bookOf book) ≡ true
 dual-words c = passed (c .before .duals-ok .ensures) (c .if3 .left)
 
 distinct-ok-requires : tie.Need-distinct-ok-requires

@@ -5,6 +5,8 @@ use mathlib.Core.Bool.{not}
 use Prim.Native.Nat.{_-_}
 use native.Mathlib.Omega.{arith}
 use Rattle.spec_range.proofs.Loop.{Passing, passing-none, passing-more, passing-fails, passing-end}
+use Rattle.sizes.specs.Blocks.{stride}
+use Rattle.sizes.proofs.Lengths.{blocks-high}
 use Rattle.book_alike.specs.Compared.{turnOk}
 use Rattle.book_alike.proofs.Comparing.{row-fits, alike-compared}
 use borrow.Author.Needs.{needs}
@@ -12,13 +14,18 @@ use Rattle.book_alike.proofs.compare.alike.Statement.{statement}
 use Rattle.book_alike.proofs.compare.alike.Tie as tie
 
 abbrev Inv-loop : tie.InvT-loop
-Inv-loop p n t d k₀ k = Passing n (λ k. not (turnOk 128 n d k t)) k
+Inv-loop p n book from t d k₀ k = Passing n (λ k. not (turnOk (stride n) n d k t)) k
 
 abbrev μ-loop : tie.MeasureT-loop
-μ-loop p n t d k₀ k = n - k
+μ-loop p n book from t d k₀ k = n - k
 
-doubled-requires : tie.Need-doubled-requires Inv-loop μ-loop
-doubled-requires c κs = search needs
+slice-aggregate-lay : tie.Need-slice-aggregate-lay Inv-loop μ-loop
+slice-aggregate-lay c = search needs
+
+lay-requires : tie.Need-lay-requires Inv-loop μ-loop
+lay-requires c κs =
+    let s = c .before .before .before in
+    (s .pre .sizes .n-low, s .pre .sizes .n-high, s .pre .room, omega (arith, blocks-high (s .args .n), s .pre .sizes .n-high))
 
 loop-holds : tie.Need-loop-holds Inv-loop μ-loop
 loop-holds c = passing-none _ _
@@ -28,21 +35,15 @@ slice-aggregate-turn-ok c = search needs
 
 turn-ok-requires : tie.Need-turn-ok-requires Inv-loop μ-loop
 turn-ok-requires c κs =
-    let double = c .before .before .before in
-    let s = double .before .before .pre in (
-      search needs,
-      search needs,
-      search needs,
-      row-fits (s .0) 64 (omega (arith, s .0 .n-high)) (omega (arith, s .0 .n-high)) (s .1) (double .doubled .ensures) (s .2) (s .3)
-          (c .before .before .loop .k) (search needs),
-    )
+    let lay = c .before .before .before .before in
+    let h = c .before .before .before .before .before .before .before .before .pre in
+    (h .sizes .n-high, search needs, lay .lay .ensures .long, row-fits h (lay .lay .ensures) (c .before .before .loop .k) (search needs))
 
 returns : tie.Need-returns Inv-loop μ-loop
 returns c =
-    let double = c .before .before .before .before .before in
-    let s = double .before .before .pre in
+    let lay = c .before .before .before .before .before .before in
     ap not (passing-fails (c .before .before .before .before .loop .inv) (search needs) (ap not (sym (c .before .turn-ok .ensures) ∙ c .if1 .taken)))
-    ∙ alike-compared (s .0) 64 (omega (arith, s .0 .n-high)) (omega (arith, s .0 .n-high)) (s .1) (double .doubled .ensures) (s .2) (s .3)
+    ∙ alike-compared (lay .before .before .before .before .pre) (lay .lay .ensures)
 
 add-k : tie.Need-add-k Inv-loop μ-loop
 add-k c = search needs
@@ -55,10 +56,8 @@ loop-again c = passing-more (c .before .before .before .before .loop .inv) (sear
 
 returns-2 : tie.Need-returns-2 Inv-loop μ-loop
 returns-2 c =
-    let double = c .before .before in
-    let s = double .before .before .pre in
-    ap not (passing-end (c .before .loop .inv) (search needs))
-    ∙ alike-compared (s .0) 64 (omega (arith, s .0 .n-high)) (omega (arith, s .0 .n-high)) (s .1) (double .doubled .ensures) (s .2) (s .3)
+    let lay = c .before .before .before in
+    ap not (passing-end (c .before .loop .inv) (search needs)) ∙ alike-compared (lay .before .before .before .before .pre) (lay .lay .ensures)
 
 pub alike-spec : {M : Type 1} → statement M
 alike-spec =
@@ -66,7 +65,8 @@ alike-spec =
     (tie.spec
     Inv-loop
     μ-loop
-    doubled-requires
+    slice-aggregate-lay
+    lay-requires
     loop-holds
     slice-aggregate-turn-ok
     turn-ok-requires

@@ -6,7 +6,7 @@ use native.Mathlib.Omega.{arith}
 use borrow.Author.Tests.{ne-eqb}
 use Rattle.spec_field.specs.Symbols.{gf}
 use Rattle.spec_word.specs.Alike.{alike}
-use Rattle.book_alike.proofs.Words.{body-word, body-stored}
+use Rattle.book_alike.proofs.Words.{body-word, body-start, body-room, body-symbol}
 use Rattle.book_alike.proofs.Differing.{unlike-told}
 use borrow.Author.Needs.{needs}
 use Rattle.book_alike.proofs.compare.pair_alike.Statement.{statement}
@@ -30,27 +30,35 @@ returns c =
     let s = start .pre in
     unlike-told (s .0) (s .1) (start .args .l) (start .args .m) (omega arith) (s .3) (ne-eqb _ _ (c .if1 .taken))
 
-dual-requires : tie.Need-dual-requires
-dual-requires c κs = let s = c .before .before .before .before .before .before .pre in omega (arith, s .0 .tested .room, s .3)
+dual-at-requires : tie.Need-dual-at-requires
+dual-at-requires c κs = let s = c .before .before .before .before .before .before .pre in omega (arith, s .0 .most, s .3)
+
+add-alike : tie.Need-add-alike
+add-alike c =
+    let start = c .before .before .before .before .before .before .before in
+    let earlier = start .pre .3 in
+    search (needs, body-start _ (start .args .m) (c .dual-at .ensures) (start .pre .0 .tested .room) (omega arith))
 
 alike-requires : tie.Need-alike-requires
 alike-requires c κs =
     let start = c .before .before .before .before .before .before .before in
-    let s = start .pre in (
-      s .0 .tested .sizes,
-      body-stored _ (start .args .m) (c .dual .ensures) (s .0 .tested) (omega (arith, s .3)),
-      s .2 .multiples,
-      ap (λ (f : ℕ → ℕ). f 0) (s .2 .word) ∙ s .0 .first (start .args .l) (omega arith),
-    )
+    let h = start .pre .0 .tested in
+    let e = c .dual-at .ensures in
+    let m = start .args .m in
+    let earlier = start .pre .3 in
+    record {
+      sizes = h .sizes;
+      room = body-room _ m e (start .args .n) (h .room) (h .spanned) (omega arith);
+      symbol = body-symbol _ m e h (omega arith);
+      multiples = start .pre .2 .multiples;
+      first = ap (λ (f : ℕ → ℕ). f 0) (start .pre .2 .word) ∙ start .pre .0 .first (start .args .l) (omega arith);
+    }
 
 returns-2 : tie.Need-returns-2
 returns-2 c =
     let start = c .before .before .before .before .before .before .before .before in
-    let s = start .pre in
-    let sizes = s .0 .tested .sizes in
     c .alike .ensures
-    ∙ ap₂ (alike (gf (start .args .p)) (start .args .n))
-    (body-word _ (start .args .m) (c .before .dual .ensures) (start .args .n) (sizes .n-low) (sizes .n-high)) (s .2 .word)
+    ∙ ap₂ (alike (gf (start .args .p)) (start .args .n)) (body-word _ (start .args .m) (c .before .dual-at .ensures) (start .args .n)) (start .pre .2 .word)
 
 pub pair-alike-spec : {M : Type 1} → statement M
 pair-alike-spec =
@@ -61,6 +69,7 @@ pair-alike-spec =
     mul-if1-2
     shared-slice-read-if1-2
     returns
-    dual-requires
+    dual-at-requires
+    add-alike
     alike-requires
     returns-2)

@@ -2,7 +2,7 @@
 -- Assumes nothing.
 use mathlib.Core.Path.{refl, sym}
 use native.Mathlib.Omega.{arith}
-use Rattle.book_alike.proofs.Words.{body-stored}
+use Rattle.book_alike.proofs.Words.{body-room, body-symbol}
 use Rattle.book_alike.proofs.Differing.{told-once, once-differs}
 use Rattle.book_alike.proofs.Comparing.{table-of}
 use borrow.Author.Needs.{needs}
@@ -17,20 +17,25 @@ returns c =
     let start = c .before .before .before .before .before in
     (sym (once-differs (start .pre .0) (start .pre .1) (start .args .l) (omega arith) (told-once (c .before .repeated .ensures) (c .if1 .taken))), refl)
 
-dual-requires : tie.Need-dual-requires
-dual-requires c κs = search needs
+dual-at-requires : tie.Need-dual-at-requires
+dual-at-requires c κs = search needs
+
+add-tabulate : tie.Need-add-tabulate
+add-tabulate c = search needs
 
 tabulate-requires : tie.Need-tabulate-requires
 tabulate-requires c κs =
     let start = c .before .before .before .before .before .before .before in
     let h = start .pre .0 .tested in
-    (h .sizes, body-stored _ (start .args .l) (c .before .dual .ensures) h (omega arith), start .pre .2)
+    let e = c .before .dual-at .ensures in
+    let l = start .args .l in
+    (h .sizes, body-room _ l e (start .args .n) (h .room) (h .spanned) (omega arith), body-symbol _ l e h (omega arith), start .pre .2)
 
 like-earlier-requires : tie.Need-like-earlier-requires
 like-earlier-requires c κs =
     let made = c .before .before .before in
     let start = made .before .before .before .before .before .before .before .before in
-    (start .pre .0, start .pre .1, table-of _ (start .args .l) (start .pre .0 .tested .sizes) (made .before .before .dual .ensures) (made .tabulate .ensures))
+    (start .pre .0, start .pre .1, table-of _ (start .args .l) (made .before .before .dual-at .ensures) (made .tabulate .ensures))
 
 same-length : tie.Need-same-length
 same-length c = c .before .before .before .before .tabulate .ensures .long
@@ -44,7 +49,8 @@ seen-before-spec =
     (tie.spec
     repeated-requires
     returns
-    dual-requires
+    dual-at-requires
+    add-tabulate
     tabulate-requires
     like-earlier-requires
     same-length

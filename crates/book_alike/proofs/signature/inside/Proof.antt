@@ -10,13 +10,13 @@ use Rattle.book_alike.proofs.signature.inside.Statement.{statement}
 use Rattle.book_alike.proofs.signature.inside.Tie as tie
 
 abbrev Inv-loop : tie.InvT-loop
-Inv-loop n out₀ j₀ out j = (j ≤ n) × Held 64 j (λ _. 255) out
+Inv-loop n out₀ j₀ out j = (j ≤ n) × Held 256 j (λ _. 255) out
 
 abbrev μ-loop : tie.MeasureT-loop
 μ-loop n out₀ j₀ out j = n - j
 
 loop-holds : tie.Need-loop-holds Inv-loop μ-loop
-loop-holds c = (search needs, held-none 64 _)
+loop-holds c = (search needs, held-none 256 _)
 
 array-write-out : tie.Need-array-write-out Inv-loop μ-loop
 array-write-out c = search needs

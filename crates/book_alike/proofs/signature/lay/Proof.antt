@@ -1,34 +1,68 @@
 -- `book_alike::signature::lay` meets its contract. The invariant: the rows below i are laid.
 -- Assumes nothing.
 use mathlib.Core.Path.{_≡_}
-use Prim.Native.Nat.{_-_, _≤_}
+use Prim.Native.Nat.{_+_, _-_, _*_, _≤_}
 use native.Mathlib.Omega.{arith}
-use Rattle.book_alike.specs.Signature.{Laid}
-use Rattle.book_alike.proofs.Laying.{laid-none, laid-more}
+use Rattle.sizes.proofs.Lengths.{blocks-fit}
+use lib.ListN.{length}
+use Rattle.book_alike.specs.Signature.{Rows}
+use Rattle.book_alike.proofs.Words.{body-start, body-room}
+use Rattle.book_alike.proofs.Laying.{row-within, rows-none, rows-more}
 use borrow.Author.Needs.{needs}
 use Rattle.book_alike.proofs.signature.lay.Statement.{statement}
 use Rattle.book_alike.proofs.signature.lay.Tie as tie
 
 abbrev Inv-loop : tie.InvT-loop
-Inv-loop n book l k rows₀ i₀ rows i = (i ≤ k) × Laid book n l i rows₀ rows
+Inv-loop n book l k rows₀ stride i₀ rows i = (i ≤ k) × Rows stride book n l i rows₀ rows
 
 abbrev μ-loop : tie.MeasureT-loop
-μ-loop n book l k rows₀ i₀ rows i = k - i
+μ-loop n book l k rows₀ stride i₀ rows i = k - i
+
+mul-stride : tie.Need-mul-stride Inv-loop μ-loop
+mul-stride c = search needs
+
+blocks-requires : tie.Need-blocks-requires Inv-loop μ-loop
+blocks-requires c κs = search needs
+
+mul-stride-2 : tie.Need-mul-stride-2 Inv-loop μ-loop
+mul-stride-2 c = search needs
 
 loop-holds : tie.Need-loop-holds Inv-loop μ-loop
-loop-holds c = (search needs, laid-none _ _ _ _)
+loop-holds c = (search needs, rows-none _ _ _ _ _)
 
-add-dual : tie.Need-add-dual Inv-loop μ-loop
-add-dual c = search needs
+add-dual-at : tie.Need-add-dual-at Inv-loop μ-loop
+add-dual-at c = search needs
 
-dual-requires : tie.Need-dual-requires Inv-loop μ-loop
-dual-requires c κs = search needs
+dual-at-requires : tie.Need-dual-at-requires Inv-loop μ-loop
+dual-at-requires c κs = search needs
 
-mul-lay-word : tie.Need-mul-lay-word Inv-loop μ-loop
-mul-lay-word c = search needs
+add-from : tie.Need-add-from Inv-loop μ-loop
+add-from c =
+    let s = c .before .before .before .before .before .before in
+    let now = c .before .before .loop in
+    search (needs, body-start _ (s .args .l + now .i) (c .dual-at .ensures) (s .pre .0 .room) (search needs))
 
-lay-word-requires : tie.Need-lay-word-requires Inv-loop μ-loop
-lay-word-requires c κs = omega (arith, c .before .before .before .loop .inv .1 .long)
+-- the row is in the room
+row-fits : (c : tie.After-dual-at Inv-loop μ-loop) → let b = c .before .before .before .blocks2 .result in
+    128 * b * c .before .before .loop .i + 128 * b ≤ length (c .before .before .before .before .before .before .args .rows .now)
+row-fits c =
+    let s = c .before .before .before .before .before .before in
+    row-within (s .args .n) (c .before .before .before .blocks2 .ensures) (c .before .loop-test .taken) (s .pre .1)
+
+mul-lay : tie.Need-mul-lay Inv-loop μ-loop
+mul-lay c = search (needs, row-fits c)
+
+lay-requires : tie.Need-lay-requires Inv-loop μ-loop
+lay-requires c κs =
+    let dual = c .before in
+    let now = dual .before .before in
+    let s = now .before .before .before .before in
+    let h = s .pre .0 in (
+      h .n-low,
+      h .n-high,
+      body-room _ (s .args .l + now .loop .i) (dual .dual-at .ensures) (s .args .n) (h .room) (h .spanned) (search needs),
+      omega (arith, row-fits dual, now .before .blocks2 .ensures, blocks-fit (h .n-high), now .loop .inv .1 .long),
+    )
 
 add-i : tie.Need-add-i Inv-loop μ-loop
 add-i c = search needs
@@ -39,17 +73,20 @@ loop-less c = search needs
 loop-again : tie.Need-loop-again Inv-loop μ-loop
 loop-again c =
     let dual = c .before .before .before .before in
-    let now = dual .before .before .loop in
-    let s = dual .before .before .before .before .before .pre in
-    (search needs, laid-more _ _ _ (s .0) (s .1) (dual .dual .ensures) (now .inv .1) (c .before .before .lay-word .ensures))
+    let now = dual .before .before in
+    let s = now .before .before .before .before in
+    let e = now .before .blocks2 .ensures in (
+      search needs,
+      rows-more _ _ _ _ (omega (arith, e, blocks-fit (s .pre .0 .n-high))) (dual .dual-at .ensures) (now .loop .inv .1) (c .before .before .lay .ensures),
+    )
 
 same-length : tie.Need-same-length Inv-loop μ-loop
 same-length c = c .before .loop .inv .1 .long
 
 returns : tie.Need-returns Inv-loop μ-loop
 returns c =
-    let e : c .before .loop .i ≡ c .before .before .before .before .args .k = omega (arith, c .before .loop .inv .0) in
-    rw e at (c .before .loop .inv .1)
+    let all : c .before .loop .i ≡ c .before .before .before .before .before .args .k = omega (arith, c .before .loop .inv .0) in
+    rw (all, c .before .before .blocks2 .ensures) at (c .before .loop .inv .1)
 
 pub lay-spec : {M : Type 1} → statement M
 lay-spec =
@@ -57,11 +94,15 @@ lay-spec =
     (tie.spec
     Inv-loop
     μ-loop
+    mul-stride
+    blocks-requires
+    mul-stride-2
     loop-holds
-    add-dual
-    dual-requires
-    mul-lay-word
-    lay-word-requires
+    add-dual-at
+    dual-at-requires
+    add-from
+    mul-lay
+    lay-requires
     add-i
     loop-less
     loop-again

@@ -6,17 +6,18 @@ use native.Mathlib.Omega.{arith}
 use lib.Bits.{bitAnd}
 use Rattle.spec_range.proofs.Loop.{Held, held-none, held-more}
 use Rattle.word_array.specs.Stored.{place}
-use Rattle.word_array.proofs.Filled.{held-end}
+use Rattle.word_table.proofs.Window.{held-table}
 use Rattle.book_alike.specs.Signature.{markAt}
 use borrow.Author.Needs.{needs}
 use Rattle.book_alike.proofs.signature.marks.Statement.{statement}
 use Rattle.book_alike.proofs.signature.marks.Tie as tie
 
 abbrev Inv-loop : tie.InvT-loop
-Inv-loop n rows from inside a b c d e out₀ j₀ out j = (j ≤ 64) × Held 64 j (λ j. bitAnd (markAt n (λ j. place rows (from + j)) j) (place inside j)) out
+Inv-loop n rows from inside at a b c d e out₀ j₀ out j =
+    (j ≤ 64) × Held 64 j (λ j. bitAnd (markAt n (λ j. place rows (from + j)) j) (place inside (at + j))) out
 
 abbrev μ-loop : tie.MeasureT-loop
-μ-loop n rows from inside a b c d e out₀ j₀ out j = 64 - j
+μ-loop n rows from inside at a b c d e out₀ j₀ out j = 64 - j
 
 loop-holds : tie.Need-loop-holds Inv-loop μ-loop
 loop-holds c = (search needs, held-none 64 _)
@@ -75,6 +76,9 @@ shared-slice-read-mark-5 c = search needs
 mark-requires : tie.Need-mark-requires Inv-loop μ-loop
 mark-requires c κs = search needs
 
+add-out : tie.Need-add-out Inv-loop μ-loop
+add-out c = search needs
+
 shared-slice-read-out : tie.Need-shared-slice-read-out Inv-loop μ-loop
 shared-slice-read-out c = search needs
 
@@ -92,10 +96,10 @@ unfolding markAt
 loop-again c =
     let s = c .before .before .before .before .before .before .before .before .before .before .before .before .args in
     let at = c .before .before .before .before .before .before .before .before .before .loop in
-    (search needs, held-more _ (omega arith) (ap (λ (x : ℕ). bitAnd x (place (s .inside .now) (at .j))) (c .before .mark .ensures)) (at .inv .1))
+    (search needs, held-more _ (omega arith) (ap (λ (x : ℕ). bitAnd x (place (s .inside .now) (s .at + at .j))) (c .before .mark .ensures)) (at .inv .1))
 
 returns : tie.Need-returns Inv-loop μ-loop
-returns c = held-end (omega arith) (c .before .loop .inv .1)
+returns c = held-table (omega arith) (c .before .loop .inv .1)
 
 pub marks-spec : {M : Type 1} → statement M
 marks-spec =
@@ -122,6 +126,7 @@ marks-spec =
     add-mark-10
     shared-slice-read-mark-5
     mark-requires
+    add-out
     shared-slice-read-out
     array-write-out
     add-j

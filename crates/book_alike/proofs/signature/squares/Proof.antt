@@ -11,13 +11,13 @@ use Rattle.book_alike.proofs.signature.squares.Statement.{statement}
 use Rattle.book_alike.proofs.signature.squares.Tie as tie
 
 abbrev Inv-loop : tie.InvT-loop
-Inv-loop m sum₀ j₀ sum j = (j ≤ 64) × SquaresTo j m sum
+Inv-loop m before sum₀ j₀ sum j = (j ≤ 64) × SquaresTo m before j sum
 
 abbrev μ-loop : tie.MeasureT-loop
-μ-loop m sum₀ j₀ sum j = 64 - j
+μ-loop m before sum₀ j₀ sum j = 64 - j
 
 loop-holds : tie.Need-loop-holds Inv-loop μ-loop
-loop-holds c = (search needs, squares-none (c .args .m .now))
+loop-holds c = (search needs, squares-none (c .args .m .now) (search needs))
 
 shared-slice-read-x : tie.Need-shared-slice-read-x Inv-loop μ-loop
 shared-slice-read-x c = search needs
@@ -48,7 +48,9 @@ loop-less : tie.Need-loop-less Inv-loop μ-loop
 loop-less c = search needs
 
 loop-again : tie.Need-loop-again Inv-loop μ-loop
-loop-again c = (search needs, squares-more (c .before .before .loop .j) (c .before .before .before .args .m .now) (c .before .before .loop .inv .1))
+loop-again c =
+    let s = c .before .before .before .args in
+    (search needs, squares-more (s .m .now) (s .before) (c .before .before .loop .j) (c .before .before .loop .inv .1))
 
 returns : tie.Need-returns Inv-loop μ-loop
 returns c =

@@ -1,31 +1,28 @@
 -- `book_duals::packed::multiples` meets its contract. The invariant: the rows below 2c are put, and the length is as before.
 -- Assumes nothing.
 use mathlib.Core.Path.{_≡_, refl, _∙_}
-use Prim.Native.Nat.{_*_, _-_, _^_, _≤_}
-use native.Mathlib.Nat.{div-mul-le-self}
+use Prim.Native.Nat.{_+_, _-_, _*_, _^_, _≤_}
 use native.Mathlib.Omega.{arith}
 use lib.ListN.{length}
 use lib.Pow.{pow-pos, pow-mono}
 use Rattle.spec_field.proofs.Doubling.{next-below}
+use Rattle.sizes.specs.Blocks.{stride}
+use Rattle.sizes.proofs.Lengths.{blocks-low, blocks-high, blocks-fit}
+use Rattle.word_table.specs.Multiples.{entry}
+use Rattle.word_table.proofs.Rows.{rows-apart}
 use Rattle.book_duals.proofs.LaneRows.{LaneRows, lanes-first, lanes-double, lanes-end}
 use borrow.Author.Needs.{needs}
 use Rattle.book_duals.proofs.packed.multiples.Statement.{statement}
 use Rattle.book_duals.proofs.packed.multiples.Tie as tie
 
 abbrev Inv-loop : tie.InvT-loop
-Inv-loop p n t₀ d q c₀ t c = (1 ≤ c) × (c ≤ q) × (length t ≡ length t₀) × LaneRows 128 p (2 * c) d t
+Inv-loop p n w t₀ blocks q c₀ t c = (1 ≤ c) × (c ≤ q) × (length t ≡ length t₀) × LaneRows (stride n) p (2 * c) (entry (stride n) t₀ 1) t
 
 abbrev μ-loop : tie.MeasureT-loop
-μ-loop p n t₀ d q c₀ t c = q - c
+μ-loop p n w t₀ blocks q c₀ t c = q - c
 
-div-doubled : tie.Need-div-doubled Inv-loop μ-loop
-div-doubled c = search needs
-
-mul-doubled : tie.Need-mul-doubled Inv-loop μ-loop
-mul-doubled c = omega (arith, div-mul-le-self 8 (c .before .args .p))
-
-doubled-requires : tie.Need-doubled-requires Inv-loop μ-loop
-doubled-requires c κs = search needs
+blocks-requires : tie.Need-blocks-requires Inv-loop μ-loop
+blocks-requires c κs = search needs
 
 order-requires : tie.Need-order-requires Inv-loop μ-loop
 order-requires c κs = search needs
@@ -35,19 +32,19 @@ wide-requires c κs = search needs
 
 put-first-rows-requires : tie.Need-put-first-rows-requires Inv-loop μ-loop
 put-first-rows-requires c κs =
-    let s = c .before .before .before .before .before .pre in
-    let two : 2 ^ 1 ≤ 2 ^ _ = pow-mono (s .0 .p-low) in
-    omega (arith, two, s .3)
+    let s = c .before .before .before .before .before .before in
+    let two = rows-apart (stride (s .args .n)) {b = 1} {c = 2 ^ s .args .p} (pow-mono {i = 1} (s .pre .0 .p-low)) in
+    (s .pre .0 .n-low, s .pre .0 .n-high, omega (arith, s .pre .2), omega (arith, two, s .pre .4))
 
 loop-holds : tie.Need-loop-holds Inv-loop μ-loop
 loop-holds c =
     let put = c .before .before in
     let wide = put .before .before in
-    let start = wide .before .before .before .before in (
+    let s = wide .before .before .before .before .before in (
       search needs,
-      omega (arith, pow-pos (start .args .p), wide .wide .ensures ∙ wide .before .order .ensures),
+      omega (arith, pow-pos (s .args .p), wide .wide .ensures ∙ wide .before .order .ensures),
       refl,
-      lanes-first (start .pre .0) (wide .before .before .doubled .ensures) (put .put-first-rows .ensures),
+      lanes-first (s .pre .0) (put .put-first-rows .ensures),
     )
 
 mul-loop : tie.Need-mul-loop Inv-loop μ-loop
@@ -58,9 +55,16 @@ double-row-requires c κs =
     let now = c .before .before in
     let put = now .before .before .before in
     let wide = put .before .before in
-    let s = wide .before .before .before .before .pre in
+    let s = wide .before .before .before .before .before in
     let q = wide .wide .ensures ∙ wide .before .order .ensures in
-    (s .0 .p-low, s .1, now .loop .inv .0, omega (arith, s .3, put .put-first-rows .ensures .long, now .loop .inv .2, q))
+    let apart = rows-apart (stride (s .args .n)) {b = 2 * now .loop .c} {c = 2 ^ s .args .p} (omega (arith, q, c .before .loop-test .taken)) in
+    rw (wide .before .before .blocks2 .ensures) (
+      s .pre .0 .p-low,
+      s .pre .1,
+      now .loop .inv .0,
+      blocks-low (s .args .n),
+      omega (arith, apart, s .pre .4, put .put-first-rows .ensures .long, now .loop .inv .2),
+    )
 
 put-next-requires : tie.Need-put-next-requires Inv-loop μ-loop
 put-next-requires c κs =
@@ -68,15 +72,15 @@ put-next-requires c κs =
     let now = double .before .before .before in
     let put = now .before .before .before in
     let wide = put .before .before in
-    let start = wide .before .before .before .before in
+    let s = wide .before .before .before .before .before in
     let q = wide .wide .ensures ∙ wide .before .order .ensures in
-    omega (
-      arith,
-      next-below (start .args .p) (now .loop .c) (start .pre .0 .p-low) (omega (arith, q)),
-      start .pre .3,
-      put .put-first-rows .ensures .long,
-      now .loop .inv .2,
-      double .double-row .ensures .long,
+    let below = next-below (s .args .p) (now .loop .c) (s .pre .0 .p-low) (omega (arith, q, double .before .before .loop-test .taken)) in
+    let apart = rows-apart (stride (s .args .n)) {b = 2 * now .loop .c + 1} {c = 2 ^ s .args .p} below in
+    rw (wide .before .before .blocks2 .ensures) (
+      now .loop .inv .0,
+      blocks-low (s .args .n),
+      blocks-high (s .args .n),
+      omega (arith, apart, s .pre .4, put .put-first-rows .ensures .long, now .loop .inv .2, double .double-row .ensures .long),
     )
 
 add-c : tie.Need-add-c Inv-loop μ-loop
@@ -90,16 +94,18 @@ loop-again c =
     let next = c .before .before in
     let double = next .before .before .before .before in
     let now = double .before .before .before in
-    let wide = now .before .before .before .before .before in
-    let s = wide .before .before .before .before .pre in (
+    let put = now .before .before .before in
+    let wide = put .before .before in
+    let s = wide .before .before .before .before .before .pre in
+    let e = wide .before .before .blocks2 .ensures in (
       search needs,
       search needs,
       next .put-next .ensures .long ∙ double .double-row .ensures .long ∙ now .loop .inv .2,
-      lanes-double (s .0) (wide .before .before .doubled .ensures) (s .1) (now .loop .inv .0) (now .loop .inv .3)
-          (omega (arith, wide .wide .ensures ∙ wide .before .order .ensures))
+      lanes-double (s .0) (put .put-first-rows .ensures) (s .1) (s .3) (now .loop .inv .0) (now .loop .inv .3)
+          (omega (arith, wide .wide .ensures ∙ wide .before .order .ensures, double .before .before .loop-test .taken))
           (λ k. omega (arith, next .before .before .slice-known3 .given k))
-          (double .double-row .ensures)
-          (next .put-next .ensures),
+          (rw e at (double .double-row .ensures))
+          (rw e at (next .put-next .ensures)),
     )
 
 same-length : tie.Need-same-length Inv-loop μ-loop
@@ -110,12 +116,13 @@ returns c =
     let now = c .before .loop in
     let put = c .before .before .before .before in
     let wide = put .before .before in
-    let start = wide .before .before .before .before in
-    let long = now .inv .2 ∙ put .put-first-rows .ensures .long in (
+    let s = wide .before .before .before .before .before .pre in
+    let first = put .put-first-rows .ensures in
+    let long = now .inv .2 ∙ first .long in (
       long,
-      lanes-end (start .pre .0) (wide .before .before .doubled .ensures) (omega (arith, start .pre .0 .n-high)) (start .args .t .now) (now .inv .3)
-          (omega (arith, wide .wide .ensures ∙ wide .before .order .ensures))
-          (start .pre .3)
+      lanes-end (s .0) first (omega (arith, blocks-fit (s .0 .n-high))) (now .inv .3)
+          (omega (arith, wide .wide .ensures ∙ wide .before .order .ensures, c .loop-test .left))
+          (s .4)
           long,
     )
 
@@ -125,9 +132,7 @@ multiples-spec =
     (tie.spec
     Inv-loop
     μ-loop
-    div-doubled
-    mul-doubled
-    doubled-requires
+    blocks-requires
     order-requires
     wide-requires
     put-first-rows-requires

@@ -1,21 +1,21 @@
 -- `book_duals::packed::pack` meets its contract. The invariant: the places below j have the sum.
 -- Assumes nothing.
-use Prim.Native.Nat.{_+_, _-_, _*_, _%_, _^_, _≤_}
 use mathlib.Core.Path.{_≡_}
-use native.Mathlib.Omega.{arith}
+use Prim.Native.Nat.{_+_, _-_, _*_, _%_, _^_, _≤_}
 use native.Mathlib.Nat.{le-refl}
+use native.Mathlib.Omega.{arith}
 use lib.Bits.{bitXor}
-use Rattle.spec_range.proofs.Loop.{Over, over-none, over-more}
+use Rattle.spec_range.proofs.Loop.{Over, over-none, over-more, over-table}
 use Rattle.word_array.specs.Stored.{place}
 use borrow.Author.Needs.{needs}
 use Rattle.book_duals.proofs.packed.pack.Statement.{statement}
 use Rattle.book_duals.proofs.packed.pack.Tie as tie
 
 abbrev Inv-loop : tie.InvT-loop
-Inv-loop book start shift out₀ j₀ out j = (j ≤ 63) × Over j (λ j. bitXor (place out₀ j) (place book (start + j) * 2 ^ shift % 256)) out₀ out
+Inv-loop book start shift out₀ j₀ out j = (j ≤ 64) × Over j (λ j. bitXor (place out₀ j) (place book (start + j) * 2 ^ shift % 256)) out₀ out
 
 abbrev μ-loop : tie.MeasureT-loop
-μ-loop book start shift out₀ j₀ out j = 63 - j
+μ-loop book start shift out₀ j₀ out j = 64 - j
 
 loop-holds : tie.Need-loop-holds Inv-loop μ-loop
 loop-holds c = (search needs, over-none _ _)
@@ -48,9 +48,8 @@ loop-again c =
 
 returns : tie.Need-returns Inv-loop μ-loop
 returns c =
-    let e : c .before .loop .j ≡ 63 = omega arith in
-    let w = rw e at (c .before .loop .inv .1) in
-    record { long = w .long; at = w .at; rest = w .rest }
+    let e : c .before .loop .j ≡ 64 = omega arith in
+    over-table _ _ _ _ (search needs) (rw e at (c .before .loop .inv .1))
 
 pub pack-spec : {M : Type 1} → statement M
 pack-spec =

@@ -1,7 +1,7 @@
 //! Fault 8, a word that is alike to a dual word of the book, and how a copy
 //! comes into a book.
 
-use super::{Book, Random, DUAL_WORDS};
+use super::{Book, Random};
 use crate::generate::copies::from_place;
 
 /// The most dual words a book can have.
@@ -30,7 +30,7 @@ pub fn damage(book: &mut Book, random: &mut Random) {
 
 /// The n places of a dual word.
 pub fn dual_word(book: &Book, index: usize) -> Vec<u8> {
-    let from = DUAL_WORDS + 64 * index;
+    let from = book.form.body(index);
     book.bytes[from..from + book.n].to_vec()
 }
 
@@ -39,13 +39,14 @@ pub fn dual_word(book: &Book, index: usize) -> Vec<u8> {
 pub fn put(book: &mut Book, one: usize, copy: &[u8], random: &mut Random) {
     let added = book.count == 1 || book.count < MOST && random.once_in(3);
     let other = if added {
-        book.bytes.push(4);
-        book.bytes.extend([0; 63]);
+        book.bytes.push(book.form.dual_word);
+        let end = book.bytes.len() + book.form.width;
+        book.bytes.resize(end, 0);
         book.count += 1;
         book.count - 1
     } else {
         (one + random.between(1, book.count - 1)) % book.count
     };
-    let to = DUAL_WORDS + 64 * other;
+    let to = book.form.body(other);
     book.bytes[to..to + book.n].copy_from_slice(copy);
 }

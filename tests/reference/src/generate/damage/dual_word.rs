@@ -1,6 +1,6 @@
 //! Fault 7: place 0, the product with g, or the weight of any dual word.
 
-use super::{copy, Book, Random, DUAL_WORDS, GENERATOR};
+use super::{copy, Book, Random, GENERATOR};
 use crate::generate::copies::from_place;
 use crate::word;
 
@@ -20,7 +20,7 @@ pub fn damage(book: &mut Book, random: &mut Random) {
 
 /// Where any dual word lies.
 fn any_word(book: &Book, random: &mut Random) -> std::ops::Range<usize> {
-    let from = DUAL_WORDS + 64 * random.between(0, book.count - 1);
+    let from = book.form.body(random.between(0, book.count - 1));
     from..from + book.n
 }
 
@@ -90,8 +90,8 @@ fn product(book: &mut Book, random: &mut Random) {
 /// multiple of (x^n - 1) / g if there is one, and else one place changed.
 fn weight(book: &mut Book, random: &mut Random) {
     if book.count == 1 {
-        book.bytes
-            .extend_from_within(DUAL_WORDS - 1..DUAL_WORDS + 63);
+        let from = book.form.dual_words();
+        book.bytes.extend_from_within(from..);
         book.count = 2;
     }
     let at = any_word(book, random);
