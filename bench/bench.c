@@ -1,7 +1,7 @@
 /*
- * Measures the library against the transcription (literal.c) and the best C (fast.c, four times compiled): whole decodes, checks, rounds, growth,
- * remainders and coding. Every time is the least of many short runs, taken in turns, since the machine may be shared. First all must agree on every
- * word.
+ * Measures the library against the transcription (literal.c) and the best C (fast.c, by two compilers, with and without AVX2): whole decodes, checks,
+ * rounds, growth, remainders and coding. Every time is the least of many short runs, taken in turns, since the machine may be shared. First all must
+ * agree on every word.
  *
  *   bench BOOKS OUT                       writes OUT/table.txt, OUT/table.md, OUT/table.csv, OUT/growth.csv
  *   bench words BOOKS BOOK CLASS COUNT    the book and words of a class (clean, one), as decode_stream reads them
@@ -25,7 +25,8 @@ COMPILED(clang)
 COMPILED(gcc_avx2)
 COMPILED(clang_avx2)
 
-enum { OURS, LITERAL, GCC, CLANG, GCC_AVX2, CLANG_AVX2, WAYS, WORDS = 4, LEAST_TURNS = 60, LONGEST_BOOK = 2118, CLEAN = 0, ONE_ROUND, MOST_ROUNDS, CLASSES };
+enum { OURS, LITERAL, GCC, CLANG, GCC_AVX2, CLANG_AVX2, WAYS, WORDS = 4, LEAST_TURNS = 60, CLEAN = 0, ONE_ROUND, MOST_ROUNDS, CLASSES };
+enum { LONGEST_BOOK = 8454, LONGEST_WORD = 255, SPARE = LONGEST_WORD + 1, SHORT = 63, LONG = 255 };
 
 typedef uint32_t Check(const uint8_t *, size_t);
 typedef uint32_t Call(const uint8_t *, size_t, const uint8_t *, size_t, uint8_t *, size_t);
@@ -43,16 +44,17 @@ static const Operation dividing = {"remainders differ", {shiftsum_remainder, lit
 static const Operation coding = {"code words differ", {shiftsum_code, literal_code, gcc_code, clang_code, gcc_avx2_code, clang_avx2_code}};
 static const char *const class_names[CLASSES] = {"clean", "one round", "most rounds"};
 
+/* Width is the length of a body, SHORT or LONG. */
 typedef struct {
     char name[32];
     uint8_t bytes[LONGEST_BOOK];
-    size_t len, n, k;
+    size_t len, width, n, k;
     unsigned q, duals, weight;
 } Book;
 
 /* Words of one class, all with the same number of rounds, or messages; what is made of them, and the sizes of input and output. */
 typedef struct {
-    uint8_t word[WORDS][63];
+    uint8_t word[WORDS][LONGEST_WORD];
     int count, rounds;
     char kind;
     const Operation *operation;
@@ -83,12 +85,17 @@ static void fail(const char *what, const char *name)
     exit(1);
 }
 
+static size_t at_dual_word(const Book *b, unsigned l)
+{
+    return b->width + 8 + (b->width + 1) * l;
+}
+
 /* What is read off a book's bytes; L may be cut down. */
 static void describe(Book *b, unsigned duals)
 {
     size_t degree;
     b->duals = duals;
-    b->len = 70 + 64 * (size_t)duals;
+    b->len = at_dual_word(b, duals) - 1;
     b->n = ((size_t)1 << b->bytes[1]) - 1;
     b->q = 1u << b->bytes[2];
     for (degree = b->n - 1; b->bytes[4 + degree] == 0; degree--)
@@ -96,7 +103,7 @@ static void describe(Book *b, unsigned duals)
     b->k = b->n - degree;
     b->weight = 0;
     for (size_t j = 0; j < b->n; j++)
-        b->weight += b->bytes[71 + j] != 0;
+        b->weight += b->bytes[at_dual_word(b, 0) + j] != 0;
     for (int w = 0; w < ways; w++)
         if (checks[w](b->bytes, b->len) != 256 * duals)
             fail("not accepted", b->name);
@@ -111,15 +118,17 @@ static void load(Book *b, const char *folder, const char *name)
     f = fopen(path, "rb");
     if (!f)
         fail("no such book", path);
+    memset(b->bytes, 0, LONGEST_BOOK);
     b->len = fread(b->bytes, 1, LONGEST_BOOK, f);
     fclose(f);
-    describe(b, (unsigned)((b->len - 70) / 64));
+    b->width = b->bytes[3] == 2 ? SHORT : LONG;
+    describe(b, (unsigned)((b->len - b->width - 7) / (b->width + 1)));
 }
 
 /* A code word with errors in up to so many places. */
 static void make_word(const Book *b, int errors, uint8_t *word)
 {
-    uint8_t message[63];
+    uint8_t message[LONGEST_WORD];
     for (size_t j = 0; j < b->k; j++)
         message[j] = (uint8_t)(random64() % b->q);
     if (shiftsum_code(b->bytes, b->len, message, b->k, word, b->n) != 0)
@@ -131,7 +140,7 @@ static void make_word(const Book *b, int errors, uint8_t *word)
 /* Result and output of every way, the transcription's only where it is asked for. */
 static uint32_t agreed(const Operation *o, const Book *b, const uint8_t *word, size_t in, size_t out, int with_literal)
 {
-    uint8_t first[64], other[64];
+    uint8_t first[SPARE], other[SPARE];
     memset(first, 0xee, sizeof first); /* a refused call writes nothing */
     uint32_t result = o->calls[GCC](b->bytes, b->len, word, in, first, out);
     for (int w = 0; w < ways; w++) {
@@ -147,7 +156,7 @@ static uint32_t agreed(const Operation *o, const Book *b, const uint8_t *word, s
 /* Words of a class: of most rounds, the most that are found in so many trials. */
 static void find(const Book *b, int class, int trials, Class *c)
 {
-    uint8_t word[63], answer[63];
+    uint8_t word[LONGEST_WORD], answer[LONGEST_WORD];
     c->operation = &decoding;
     c->in = c->out = b->n;
     c->count = 0;
@@ -164,7 +173,7 @@ static void find(const Book *b, int class, int trials, Class *c)
             c->count = 0;
         c->rounds = rounds;
         c->kind = SHIFTSUM_KIND(r);
-        memcpy(c->word[c->count++], word, 63);
+        memcpy(c->word[c->count++], word, b->n);
     }
     for (int i = 0; i < c->count; i++)
         agreed(&decoding, b, c->word[i], b->n, b->n, i == 0);
@@ -173,7 +182,7 @@ static void find(const Book *b, int class, int trials, Class *c)
 /* One run of `times` calls; the words in turn. No word: the check. */
 static double run(const Book *b, const Class *c, int way, long times)
 {
-    uint8_t answer[63];
+    uint8_t answer[LONGEST_WORD];
     double start = microseconds();
     for (long i = 0; i < times; i++)
         if (c)
@@ -233,14 +242,15 @@ static void row(const char *first, const char *second, const double *t)
     fflush(text);
 }
 
+/* The transcription decodes few words of n 63 and more. */
 static void random_words_agree(const Book *b)
 {
-    uint8_t word[63];
+    uint8_t word[LONGEST_WORD];
     for (int i = 0; i < 200; i++) {
         make_word(b, i % 16, word);
         if (i % 40 == 39)
             word[random64() % b->n] = (uint8_t)random64(); /* refused, mostly */
-        agreed(&decoding, b, word, b->n, b->n, b->n < 63);
+        agreed(&decoding, b, word, b->n, b->n, b->n < 63 || i % 45 == 10);
     }
 }
 
@@ -260,17 +270,41 @@ static uint8_t divided(const Book *book, unsigned a, unsigned b)
     return 0;
 }
 
-/* One byte changed: the same refusal, or none. */
+/* The same refusal, or none, by every way. */
+static uint32_t checks_agree(const Book *b)
+{
+    uint32_t result = literal_check(b->bytes, b->len);
+    for (int w = 0; w < ways; w++)
+        if (w != LITERAL && checks[w](b->bytes, b->len) != result)
+            fail("checks differ", b->name);
+    return result;
+}
+
+/* One byte changed. */
 static void damaged_books_agree(const Book *b)
 {
     for (int i = 0; i < 300; i++) {
         Book damaged = *b;
         damaged.bytes[random64() % b->len] ^= (uint8_t)(i % 3 ? 1u << random64() % 8 : random64());
         damaged.len -= i % 50 == 49;
-        uint32_t result = literal_check(damaged.bytes, damaged.len);
-        for (int w = 0; w < ways; w++)
-            if (w != LITERAL && checks[w](damaged.bytes, damaged.len) != result)
-                fail("checks differ", b->name);
+        checks_agree(&damaged);
+    }
+}
+
+/* Every byte 3, and s of every form, with lengths of the one form, the other, both and neither. */
+static void forms_agree(const Book *b)
+{
+    static const size_t lengths[] = {0, 3, 4, 133, 134, 517, 518, 519, 774, 2054, 2118, 2182, 2310, 8198, 8453, 8454};
+    for (unsigned i = 0; i < 10 * sizeof lengths / sizeof *lengths; i++) {
+        Book other = *b;
+        other.bytes[3] = (uint8_t)(i % 10);
+        other.len = lengths[i / 10];
+        checks_agree(&other);
+        other.len = b->len;
+        other.bytes[1] = (uint8_t)(i / 10);
+        checks_agree(&other);
+        other.bytes[3] = b->bytes[3];
+        checks_agree(&other);
     }
 }
 
@@ -280,8 +314,8 @@ static void turned_books_agree(const Book *b)
     for (int i = 0; i < 40 && b->duals > 1; i++) {
         Book turned = *b;
         unsigned l = (unsigned)(random64() % b->duals), m = (l + 1 + (unsigned)(random64() % (b->duals - 1))) % b->duals;
-        const uint8_t *from = b->bytes + 71 + 64 * m;
-        uint8_t *to = turned.bytes + 71 + 64 * l;
+        const uint8_t *from = b->bytes + at_dual_word(b, m);
+        uint8_t *to = turned.bytes + at_dual_word(b, l);
         size_t t = random64() % b->n;
         while (from[t] == 0)
             t = (t + 1) % b->n;
@@ -289,18 +323,28 @@ static void turned_books_agree(const Book *b)
             to[j] = divided(b, from[(t + j) % b->n], from[t]);
         if (i % 4 == 3)
             to[1 + random64() % (b->n - 1)] ^= 1;
-        uint32_t result = literal_check(turned.bytes, turned.len);
-        for (int w = 0; w < ways; w++)
-            if (w != LITERAL && checks[w](turned.bytes, turned.len) != result)
-                fail("checks differ", b->name);
+        uint32_t result = checks_agree(&turned);
         if (i % 4 != 3 && result != 8)
             fail("a turned copy is not refused", b->name);
     }
 }
 
-enum { BOOKS = 5, DEAR = 7 };
-static const char *const books[BOOKS] = {"a", "n15p4", "n63p1", "n63p2", "n63p6"};
-static const char *const dear[DEAR] = {"n63p1_light", "n63p1_equal", "n63p1_dear", "n63p2_equal", "n63p2_dear", "n63p6_equal", "n63p6_dear"};
+enum { BOOKS = 9, DEAR = 11 };
+static const char *const books[BOOKS] = {"a", "n15p4", "n63p1", "n63p2", "n63p6", "n127p1", "n255p1", "n255p2", "n255p4"};
+static const char *const dear[DEAR] = {"n63p1_light", "n63p1_equal", "n63p1_dear", "n63p2_equal", "n63p2_dear", "n63p6_equal", "n63p6_dear",
+                                       "n127p1_dear", "n255p1_dear", "n255p2_dear", "n255p4_dear"};
+
+/* Loads a book for some rows. Long books leave the random numbers as they were, so that no row of a short one has other words for them. */
+static uint64_t begin(Book *b, const char *folder, const char *name)
+{
+    load(b, folder, name);
+    return seed;
+}
+
+static void end(const Book *b, uint64_t kept)
+{
+    seed = b->width == LONG ? kept : seed;
+}
 
 /* Books whose dual words have one signature in the library and are not alike, so that it compares each with each. The best C's signature is another. */
 static void dear_checks(const char *folder)
@@ -308,36 +352,47 @@ static void dear_checks(const char *folder)
     for (int i = 0; i < DEAR; i++) {
         Book b;
         double t[WAYS];
-        load(&b, folder, dear[i]);
+        uint64_t kept = begin(&b, folder, dear[i]);
         turned_books_agree(&b);
         measure(&b, NULL, 4e5, t);
         row(dear[i], "equal signatures", t);
+        end(&b, kept);
     }
+}
+
+/* A book's decodes, a row for each class, its check, and a round; the count of rounds. */
+static int decode_rows(const Book *b, double *checked, double *round)
+{
+    double decoded[CLASSES][WAYS];
+    char label[32];
+    Class c;
+    random_words_agree(b);
+    damaged_books_agree(b);
+    forms_agree(b);
+    turned_books_agree(b);
+    for (int class = CLEAN; class < CLASSES; class++) {
+        find(b, class, 4000, &c);
+        snprintf(label, sizeof label, "%d rounds (%c)", c.rounds, c.kind);
+        measure(b, &c, 6e5, decoded[class]);
+        row(b->name, class == MOST_ROUNDS ? label : class_names[class], decoded[class]);
+    }
+    measure(b, NULL, 4e5, checked);
+    for (int w = 0; w < WAYS; w++)
+        round[w] = (decoded[MOST_ROUNDS][w] - decoded[CLEAN][w]) / c.rounds;
+    return c.rounds;
 }
 
 static void whole_decodes(const char *folder)
 {
-    double decoded[CLASSES][WAYS], checked[BOOKS][WAYS], rounds[BOOKS][WAYS];
+    double checked[BOOKS][WAYS], rounds[BOOKS][WAYS];
     char label[32];
     int per[BOOKS];
     heading("Whole decodes over the C boundary, the book checked in each call", "book", "words");
     for (int i = 0; i < BOOKS; i++) {
         Book b;
-        load(&b, folder, books[i]);
-        random_words_agree(&b);
-        damaged_books_agree(&b);
-        turned_books_agree(&b);
-        for (int class = CLEAN; class < CLASSES; class++) {
-            Class c;
-            find(&b, class, 4000, &c);
-            snprintf(label, sizeof label, "%d rounds (%c)", c.rounds, c.kind);
-            measure(&b, &c, 6e5, decoded[class]);
-            row(books[i], class == MOST_ROUNDS ? label : class_names[class], decoded[class]);
-            per[i] = c.rounds;
-        }
-        measure(&b, NULL, 4e5, checked[i]);
-        for (int w = 0; w < WAYS; w++)
-            rounds[i][w] = (decoded[MOST_ROUNDS][w] - decoded[CLEAN][w]) / per[i];
+        uint64_t kept = begin(&b, folder, books[i]);
+        per[i] = decode_rows(&b, checked[i], rounds[i]);
+        end(&b, kept);
     }
     heading("One round: the difference of the words of most rounds and the clean ones, a round", "book", "rounds");
     for (int i = 0; i < BOOKS; i++) {
@@ -350,15 +405,15 @@ static void whole_decodes(const char *folder)
     dear_checks(folder);
 }
 
-/* The transcription divides few words at n 63. Now and then a word is refused, and an output of another size. */
+/* The transcription divides few words of n 63 and more. Now and then a word is refused, and an output of another size. */
 static void remainders_agree(const Book *b)
 {
-    uint8_t word[63];
+    uint8_t word[LONGEST_WORD];
     for (int i = 0; i < 400; i++) {
         make_word(b, i % 16, word);
         if (i % 40 == 39)
             word[random64() % b->n] = (uint8_t)random64();
-        agreed(&dividing, b, word, b->n, b->n - b->k + (i % 50 == 49), b->n < 63 || i % 10 == 9);
+        agreed(&dividing, b, word, b->n, b->n - b->k + (i % 50 == 49), b->n < 63 || i % (b->n > 63 ? 50 : 10) == 9);
     }
 }
 
@@ -370,25 +425,26 @@ static void whole_remainders(const char *folder)
     for (int i = 0; i < BOOKS; i++) {
         Book b;
         Class c;
-        load(&b, folder, books[i]);
+        uint64_t kept = begin(&b, folder, books[i]);
         remainders_agree(&b);
         find(&b, ONE_ROUND, 4000, &c);
         c.operation = &dividing;
         c.out = b.n - b.k;
         measure(&b, &c, 4e5, t);
         row(books[i], "remainder", t);
+        end(&b, kept);
     }
 }
 
-/* The transcription codes few messages at n 63. No symbol and one too many are refused by 9; now and then a large symbol is, or another size. */
+/* The transcription codes few messages of n 63 and more. No symbol and one too many are refused by 9; now and then a large symbol is, or another size. */
 static void codes_agree(const Book *b)
 {
-    uint8_t message[64];
+    uint8_t message[SPARE];
     for (int i = 0; i < 400; i++) {
         size_t length = i % 40 == 19 ? 0 : i % 40 == 39 ? b->k + 1 : 1 + random64() % b->k;
         for (size_t u = 0; u < length; u++)
             message[u] = (uint8_t)(random64() % (i % 30 == 29 ? 256 : b->q));
-        uint32_t result = agreed(&coding, b, message, length, b->n + (i % 50 == 49), b->n < 63 || i % 10 == 9);
+        uint32_t result = agreed(&coding, b, message, length, b->n + (i % 50 == 49), b->n < 63 || i % (b->n > 63 ? 50 : 10) == 9);
         if ((result == 9) != (length == 0 || length > b->k))
             fail("the wrong lengths are refused", b->name);
     }
@@ -416,7 +472,7 @@ static void whole_codes(const char *folder)
     for (int i = 0; i < BOOKS; i++) {
         Book b;
         Class c;
-        load(&b, folder, books[i]);
+        uint64_t kept = begin(&b, folder, books[i]);
         codes_agree(&b);
         const size_t lengths[3] = {b.k, (b.k + 1) / 2, 1};
         for (int j = 0; j < 3; j++) {
@@ -425,6 +481,7 @@ static void whole_codes(const char *folder)
             snprintf(label, sizeof label, "%zu of %zu", lengths[j], b.k);
             row(books[i], label, t);
         }
+        end(&b, kept);
     }
 }
 
@@ -445,7 +502,7 @@ static void grow(const char *by, Book *b, int most)
 {
     Class clean, long_run;
     double base[WAYS], t[WAYS];
-    b->bytes[68] = (uint8_t)most;
+    b->bytes[b->width + 5] = (uint8_t)most;
     find(b, CLEAN, WORDS, &clean);
     find(b, MOST_ROUNDS, 600, &long_run);
     long_run.count = 1; /* the transcription is slow */
@@ -458,7 +515,8 @@ static void grow(const char *by, Book *b, int most)
 
 static void growths(const char *folder)
 {
-    static const char *const heavier[] = {"n63p2", "n63p2w20", "n63p2w28", "n63p2w44"}, *const longer[] = {"n15p1", "n31p1", "n63p1"};
+    static const char *const heavier[] = {"n63p2", "n63p2w20", "n63p2w28", "n63p2w44"};
+    static const char *const longer[] = {"n15p1", "n31p1", "n63p1", "n127p1w8", "n255p1w8"};
     Book b;
     const char *title = "Growth: a round's time, and the same divided by L * weight * n";
     fprintf(text, "\n%s\n%-7s %-10s %3s %4s %4s %4s %11s %11s %11s\n", title, "by", "book", "L", "wt", "n", "rnds", "ours, us", "ours, ns/", "gcc, ns/");
@@ -473,10 +531,11 @@ static void growths(const char *folder)
         load(&b, folder, heavier[i]);
         grow("weight", &b, 4);
     }
-    for (int i = 0; i < 3; i++) {
-        load(&b, folder, longer[i]);
+    for (int i = 0; i < 5; i++) {
+        uint64_t kept = begin(&b, folder, longer[i]);
         describe(&b, 8);
         grow("n", &b, 4);
+        end(&b, kept);
     }
     for (int i = 1; i <= 32; i *= 2) {
         load(&b, folder, "n63p2");
@@ -515,7 +574,7 @@ static void split(const char *folder)
     for (int i = 0; i < BOOKS; i++) {
         Book b;
         Class c;
-        load(&b, folder, books[i]);
+        uint64_t kept = begin(&b, folder, books[i]);
         find(&b, MOST_ROUNDS, 100, &c);
         fprintf(text, "\n%-10s", books[i]);
         fprintf(markdown, "\n| %s |", books[i]);
@@ -524,6 +583,7 @@ static void split(const char *folder)
             fprintf(text, " %9.3f", t);
             fprintf(markdown, " %.3f |", t);
         }
+        end(&b, kept);
     }
     fprintf(text, "\n");
     fprintf(markdown, "\n");

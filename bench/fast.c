@@ -1,15 +1,18 @@
 /*
- * The best portable C for the scope's answers. Vectors are the compilers' own (vector_size), so that one source serves every target of little end; no intrinsic.
+ * The best portable C for the scope's answers. Vectors are the compilers' own (vector_size), so that one source serves every target of little end; no
+ * intrinsic. It is compiled for three rooms, the places that a word is padded to: 64 for short books, 128 for n 127 and 256 for n 255.
  *
  * The book is checked in each call, as the C boundary does. What makes it fast:
  *   - a word's multiples by every symbol stand in rows, each row twice in a run, so that a product with a dual word is a sum of rows at offsets;
- *   - for p 1 and 2 a digit of all symbols is one number, and a tree of full adders counts all columns at once;
+ *   - for p 1 and 2 a digit of 64 symbols is one number, and a tree of full adders counts all columns at once; a row of several numbers stands there
+ *     moved by 0 to 7 places, so that a turn of it is an offset of bytes;
  *   - for p 3 to 5, the marks "a dual word's product is exp e at m" stand in rows, in the order of e and twice, so that dividing by the symbol at h
  *     and turning by h are one offset, and counting is a sum of rows of bytes;
  *   - for p 6 the counts are scattered instead, dividing again being an offset of rows in the order of logarithms;
  *   - "g divides" is asked of k or n - k places of one product, not by division;
  *   - a remainder is left by a shift register whose cells stand in p numbers, a digit each;
- *   - a message is coded by products of numbers, a digit of all symbols in each, for p 1 and 2, and else as a sum of multiples of g at offsets;
+ *   - a message is coded by products of numbers, a digit of all symbols in each, for p 1 and 2 in short books, and else as a sum of multiples of g at
+ *     offsets;
  *   - dual words of p at most 3 are checked several to a byte;
  *   - dual words that are alike have one signature; those that share one are brought to a normal form, once each.
  */
@@ -30,10 +33,15 @@ typedef int16_t Wide __attribute__((vector_size(VB), may_alias));
 typedef uint16_t Half __attribute__((vector_size(VB), may_alias));
 typedef uint64_t Quad __attribute__((vector_size(VB), may_alias));
 
+#define SIZED(b) FAST_SIZED(ROOM, b)
 #define INLINE static inline __attribute__((always_inline))
 #define ALIGNED __attribute__((aligned(64)))
 
-enum { WORD = 64 / VB, ROW = 128, AT_G = 4, AT_DUALS = 70, SCATTER_ROWS = 192, MARKS = 32256, PLANES = 12, STREAM = 2048 };
+/* A record has a body and its kind byte. A word is so many limbs of 64 places; a chunk is the vectors of a limb. */
+enum { LIMBS = ROOM / 64, CHUNK = 64 / VB, WORD = ROOM / VB, ROW = 2 * ROOM, RECORD = LIMBS == 1 ? 64 : 256, SYMBOLS = LIMBS == 1 ? 64 : 16 };
+enum { AT_G = 4, AT_MOST = AT_G + RECORD, AT_DUALS = AT_MOST + 2, G_KIND = LIMBS == 1 ? 2 : 5, DUAL_KIND = LIMBS == 1 ? 4 : 6 };
+enum { SCATTER = LIMBS == 1 ? 192 * 64 : 1, MARKS = 32256, PLANES = LIMBS == 1 ? 12 : 13, STREAM = 32 * ROOM, BATCH = LIMBS == 1 ? 1 : 8 };
+enum { STEP = LIMBS < VB / 8 ? VB / 8 : LIMBS }; /* numbers from an input of the adders to the next */
 
 static const uint8_t polynomials[7] = {0, 3, 7, 11, 19, 37, 91};
 
@@ -45,17 +53,18 @@ typedef struct {
 typedef struct {
     int p, q, n, k, d, duals, weight, rounds, places, vecs, terms, width, batch;
     const uint8_t *book;
-    uint16_t test_at[64];          /* the terms of h = (x^n - 1) / g, as offsets into the word's multiples */
-    Term lists[32 * 64];           /* the dual words' terms, one after the other */
+    uint16_t test_at[ROOM];        /* the terms of h = (x^n - 1) / g, as offsets into the word's multiples */
+    Term lists[32 * ROOM];         /* the dual words' terms, one after the other */
     uint8_t exps[64];
     uint16_t rows[64];             /* where the scattered rows start, by symbol */
-    uint8_t multiples[64 * ROW] ALIGNED; /* row c: c times the word, twice; or c times g */
+    uint8_t multiples[SYMBOLS * ROW] ALIGNED; /* row c: c times the word, twice; or c times g */
     uint8_t marks[MARKS] ALIGNED;
-    int16_t counts[64 * 64] ALIGNED; /* row e: the entries of symbol exp e */
-    uint16_t scatter[SCATTER_ROWS * 64] ALIGNED;
-    uint8_t h[64]; /* (x^n - 1) / g */
-    uint64_t turns[64 * 4], stream[2][STREAM] ALIGNED; /* for p 1 and 2 */
-    uint64_t steps[64][6]; /* for p 4 to 6: what a step of the shift register subtracts, by the symbol that falls out */
+    int16_t counts[SYMBOLS * ROOM] ALIGNED; /* row e: the entries of symbol exp e */
+    uint16_t scatter[SCATTER] ALIGNED;
+    uint8_t h[ROOM]; /* (x^n - 1) / g */
+    uint64_t turns[LIMBS == 1 ? 256 : 3 * ROW / 8], stream[2][STREAM * LIMBS] ALIGNED; /* for p 1 and 2 */
+    uint64_t products[BATCH][3 * ROW / 8]; /* for p 1 and 2 where there are several limbs */
+    uint64_t steps[SYMBOLS][6][LIMBS]; /* for p 4 to 6: what a step of the shift register subtracts, by the symbol that falls out */
 } Fast;
 
 INLINE Vec get(const void *at)
@@ -157,70 +166,91 @@ INLINE uint64_t plane(const uint8_t *word, int k)
     return bits;
 }
 
+/* Every digit of the first `length` places, the last of them at the top. */
+INLINE void top_planes(const int p, const uint8_t *word, int length, uint64_t (*out)[LIMBS])
+{
+    uint8_t moved[2 * ROOM];
+    const uint8_t *from = word;
+    if (LIMBS > 1) { /* the places move as bytes */
+        memset(moved, 0, ROOM);
+        memcpy(moved + ROOM - length, word, ROOM);
+        from = moved;
+    }
+    for (int a = 0; a < p; a++)
+        for (int i = 0; i < LIMBS; i++)
+            out[a][i] = plane(from + 64 * i, a) << (LIMBS > 1 ? 0 : 64 - length);
+}
+
 /* What a step of the shift register subtracts: multiples of g less its leading coefficient. Up to p 3 only those by powers of x, of which the others
  * are sums. */
-INLINE void register_rows(const int p, const uint8_t *g, int d, uint64_t (*rows)[6])
+INLINE void register_rows(const int p, const uint8_t *g, int d, uint64_t (*rows)[6][LIMBS])
 {
-    for (int i = 0; i < p; i++)
-        rows[0][i] = 0;
-    for (int i = 0; i < p; i++)
-        rows[1][i] = plane(g, i) << (64 - d);
+    memset(rows[0], 0, sizeof rows[0][0] * (size_t)p);
+    top_planes(p, g, d, rows[1]);
     for (int c = 2; c < 1 << p; c++) {
         int low = c & -c;
         if (low != c && p <= 3)
             continue;
         for (int i = 0; i < p; i++)
-            rows[c][i] = low != c ? rows[c - low][i] ^ rows[low][i]
-                                  : (i ? rows[c / 2][i - 1] : 0) ^ (polynomials[p] >> i & 1 ? rows[c / 2][p - 1] : 0);
+            for (int z = 0; z < LIMBS; z++)
+                rows[c][i][z] = low != c ? rows[c - low][i][z] ^ rows[low][i][z]
+                                         : (i ? rows[c / 2][i - 1][z] : 0) ^ (polynomials[p] >> i & 1 ? rows[c / 2][p - 1][z] : 0);
     }
 }
 
 /* A step of the shift register, p numbers whose top bits are the next coefficient of the quotient: that coefficient. */
-INLINE uint64_t register_step(const int p, uint64_t (*rows)[6], uint64_t *state)
+INLINE uint64_t register_step(const int p, uint64_t (*rows)[6][LIMBS], uint64_t (*state)[LIMBS])
 {
     const int table = p > 3;
-    uint64_t c = 0, add[6] = {0};
+    uint64_t c = 0, add[6][LIMBS] = {{0}};
     for (int a = 0; a < p; a++) {
-        c |= (state[a] >> 63) << a;
+        c |= (state[a][LIMBS - 1] >> 63) << a;
         for (int b = 0; b < p && !table; b++)
-            add[b] ^= rows[1 << a][b] & (uint64_t)((int64_t)state[a] >> 63);
+            for (int i = 0; i < LIMBS; i++)
+                add[b][i] ^= rows[1 << a][b][i] & (uint64_t)((int64_t)state[a][LIMBS - 1] >> 63);
     }
     for (int a = 0; a < p; a++)
-        state[a] = state[a] << 1 ^ (table ? rows[c][a] : add[a]);
+        for (int i = LIMBS - 1; i >= 0; i--)
+            state[a][i] = (state[a][i] << 1 | (i ? state[a][i - 1] >> 63 : 0)) ^ (table ? rows[c][a][i] : add[a][i]);
     return c;
 }
 
 /* h = (x^n - 1) / g. Says whether nothing is left. */
-INLINE int quotient_by(const int p, const uint8_t *g, int d, int k, uint8_t *h, uint64_t (*rows)[6])
+INLINE int quotient_by(const int p, const uint8_t *g, int d, int k, uint8_t *h, uint64_t (*rows)[6][LIMBS])
 {
-    uint64_t state[6] = {0}, left = 0;
+    uint64_t state[6][LIMBS] = {{0}}, left = 0;
     register_rows(p, g, d, rows);
-    state[0] = (uint64_t)1 << 63;
+    state[0][LIMBS - 1] = (uint64_t)1 << 63;
     for (int i = k; i >= 0; i--)
         h[i] = (uint8_t)register_step(p, rows, state);
-    state[0] ^= (uint64_t)1 << (64 - d);
+    for (int i = 0; i < LIMBS; i++)
+        state[0][i] ^= LIMBS == 1 || i == (ROOM - d) / 64 ? (uint64_t)1 << (ROOM - d) % 64 : 0;
     for (int a = 0; a < p; a++)
-        left |= state[a];
+        for (int i = 0; i < LIMBS; i++)
+            left |= state[a][i];
     return left == 0;
 }
 
 static int quotient(Fast *f, const uint8_t *g, uint8_t *h)
 {
-    uint64_t few[8][6];
+    uint64_t few[8][6][LIMBS];
     switch (f->p) {
     case 1: return quotient_by(1, g, f->d, f->k, h, few);
     case 2: return quotient_by(2, g, f->d, f->k, h, few);
-    case 3: return quotient_by(3, g, f->d, f->k, h, few);
     case 4: return quotient_by(4, g, f->d, f->k, h, f->steps);
+#if ROOM == 64
+    case 3: return quotient_by(3, g, f->d, f->k, h, few);
     case 5: return quotient_by(5, g, f->d, f->k, h, f->steps);
-    default: return quotient_by(6, g, f->d, f->k, h, f->steps);
+    case 6: return quotient_by(6, g, f->d, f->k, h, f->steps);
+#endif
+    default: return 0;
     }
 }
 
-/* The sum of rows at offsets, of `vecs` vectors. */
+/* The sum of rows at offsets, of `vecs` vectors, a chunk at most. */
 INLINE void sum_rows(const uint8_t *rows, const uint16_t *at, int count, const int vecs, Vec *sum)
 {
-    Vec s[WORD] = {0};
+    Vec s[CHUNK] = {0};
     for (int i = 0; i < count; i++)
         for (int v = 0; v < vecs; v++)
             s[v] ^= get(rows + at[i] + v * VB);
@@ -255,7 +285,7 @@ INLINE void pack_rows(const Fast *f, int l, const int p, uint8_t *rows)
     for (int v = 0; v < WORD; v++) {
         Vec x = {0}, keep = ~(Vec){v == 0 ? 255 : 0}; /* all but the kind byte */
         for (int i = 0; i < words; i++)
-            x |= (Vec)((Quad)(get(f->book + AT_DUALS + 64 * (l + i) + v * VB) & keep) << (p * i));
+            x |= (Vec)((Quad)(get(f->book + AT_DUALS + RECORD * (l + i) + v * VB) & keep) << (p * i));
         put(rows + ROW + v * VB, x);
         if (p > 1) {
             Vec x2 = packed_times_x(x, p);
@@ -276,7 +306,7 @@ INLINE void pack_rows(const Fast *f, int l, const int p, uint8_t *rows)
 INLINE int packed_products(const Fast *f, const uint8_t *g, const int p, const int vecs)
 {
     uint8_t rows[2][(1 << p) * ROW] ALIGNED;
-    uint16_t at[64];
+    uint16_t at[ROOM];
     int count = 0, turn = 0;
     Vec left[WORD] = {{0}};
     memset(rows, 0, sizeof rows);
@@ -285,13 +315,15 @@ INLINE int packed_products(const Fast *f, const uint8_t *g, const int p, const i
         count += g[t] != 0;
     }
     for (int l = 0; l < f->duals; l += 8 / p, turn ^= 1) {
-        Vec sum[WORD];
+        Vec sum[CHUNK];
         pack_rows(f, l, p, rows[turn]);
-        sum_rows(rows[turn], at, count, vecs, sum);
-        for (int v = 0; v < vecs; v++)
-            left[v] |= sum[v];
+        for (int c = 0; c < (LIMBS == 1 ? 1 : f->k); c += 64) {
+            sum_rows(rows[turn] + c, at, count, vecs, sum);
+            for (int v = 0; v < vecs; v++)
+                left[c / VB + v] |= sum[v];
+        }
     }
-    return zero_below(left, f->k, vecs);
+    return zero_below(left, f->k, LIMBS == 1 ? vecs : (f->k + VB - 1) / VB);
 }
 
 /* The multiples of g, behind k - 1 zeros, so that an offset turns them. */
@@ -302,44 +334,73 @@ static void generator_rows(Fast *f, const uint8_t *g)
     multiply(f->multiples, f->q, polynomials[f->p], 2 * f->vecs);
 }
 
-/* The same one dual word at a time, by the multiples of g. */
+/* The nonzero places of a limb of a dual word, as the bits of a number; what its lowest bit is the place of. */
+INLINE uint64_t support(const uint8_t *record, int limb, uint32_t *first)
+{
+    uint64_t bits = 0;
+    for (int i = 0; i < 8; i++) {
+        uint64_t x = (load64(record + 64 * limb + 8 * i) + 0x7f7f7f7f7f7f7f7fu) >> 7 & 0x0101010101010101u;
+        bits |= (x * 0x0102040810204080u >> 56) << (8 * i);
+    }
+    *first = limb ? 64 * (uint32_t)limb - 1 : 0;
+    return limb ? bits : bits >> 1; /* the kind byte falls out */
+}
+
+/* Where the multiples of g are that a dual word adds up, without those of zeros. */
+INLINE int factors(const Fast *f, const uint8_t *b, uint16_t *at)
+{
+    int count = 0;
+    uint32_t first;
+    for (int i = 0; i < LIMBS; i++)
+        for (uint64_t left = support(b - 1, i, &first); left; left &= left - 1) {
+            int u = (int)first + __builtin_ctzll(left);
+            at[count++] = (uint16_t)(f->n - 1 - u + b[u] * ROW);
+        }
+    return count;
+}
+
+/* The same one dual word at a time, by the multiples of g. Where a word is one limb, zeros cost less than to find them. */
 INLINE int plain_products(Fast *f, const uint8_t *g, const int vecs)
 {
     const uint8_t *rows = f->multiples;
+    uint16_t at[ROOM];
     int n = f->n;
     Vec left[WORD] = {{0}};
     generator_rows(f, g);
     for (int l = 0; l < f->duals; l++) {
-        const uint8_t *b = f->book + AT_DUALS + 1 + 64 * l;
-        Vec sum[WORD] = {{0}};
-        for (int u = 0; u < n; u++)
+        const uint8_t *b = f->book + AT_DUALS + 1 + RECORD * l;
+        int count = LIMBS == 1 ? n : factors(f, b, at);
+        for (int c = 0; c < (LIMBS == 1 ? 1 : f->k); c += 64) {
+            Vec sum[CHUNK] = {{0}};
+            for (int u = 0; u < count; u++)
+                for (int v = 0; v < vecs; v++)
+                    sum[v] ^= get((LIMBS == 1 ? rows + n - 1 - u + b[u] * ROW : rows + at[u]) + c + v * VB);
             for (int v = 0; v < vecs; v++)
-                sum[v] ^= get(rows + n - 1 - u + b[u] * ROW + v * VB);
-        for (int v = 0; v < vecs; v++)
-            left[v] |= sum[v];
+                left[c / VB + v] |= sum[v];
+        }
     }
-    return zero_below(left, f->k, vecs);
+    return zero_below(left, f->k, LIMBS == 1 ? vecs : (f->k + VB - 1) / VB);
 }
 
 /* Kind bytes, symbols, place 0 and weights of the dual words. */
 static int dual_words_fit(Fast *f)
 {
-    uint8_t want[64] ALIGNED = {4, 1}, care[64] ALIGNED;
+    uint8_t want[RECORD] ALIGNED = {DUAL_KIND, 1}, care[RECORD] ALIGNED;
     Vec bad = {0};
     unsigned unlike = 0;
     care[0] = 255;
     care[1] = 255;
-    for (int j = 1; j < 63; j++)
+    for (int j = 1; j < RECORD - 1; j++)
         care[j + 1] = j < f->n ? (uint8_t)~(f->q - 1) : 255;
     for (int l = 0; l < f->duals; l++) {
-        const uint8_t *record = f->book + AT_DUALS + 64 * l;
+        const uint8_t *record = f->book + AT_DUALS + RECORD * l;
         Vec nonzero = {0};
-        for (int v = 0; v < WORD; v++) {
+        for (int v = 0; v < RECORD / VB; v++) {
             Vec x = get(record + v * VB);
             bad |= (x ^ get(want + v * VB)) & get(care + v * VB);
             nonzero -= (Vec)(x != (Vec){0});
         }
-        unsigned weight = byte_sum(nonzero) - 1;
+        unsigned weight = (byte_sum(nonzero) - 1) & 255;
         f->weight = l ? f->weight : (int)weight;
         unlike |= weight ^ (unsigned)f->weight;
     }
@@ -350,10 +411,10 @@ static int dual_words_fit(Fast *f)
 INLINE void lay_rows(const Fast *f, uint8_t (*rows)[ROW], const int vecs)
 {
     for (int l = 0; l < f->duals; l++) {
-        const uint8_t *word = f->book + AT_DUALS + 64 * l + 1;
+        const uint8_t *word = f->book + AT_DUALS + RECORD * l + 1;
         for (int at = 0; at < f->n + vecs * VB - 1; at += f->n)
             for (int v = 0; v < vecs; v++) {
-                int from = v < WORD - 1 ? v * VB : 63 - VB;
+                int from = v < WORD - 1 ? v * VB : ROOM - 1 - VB;
                 put(rows[l] + at + from, get(word + from));
             }
     }
@@ -416,7 +477,7 @@ INLINE int is_before(const uint8_t *a, const uint8_t *b, int n)
 /* The first of a word's turns and multiples with symbol 1 at place 0: words are alike if these are equal. Row 0 is after all of them. */
 static void normal_form(const Fast *f, const uint16_t *inverses, const uint8_t *row, uint8_t *form)
 {
-    uint8_t multiples[64 * ROW] ALIGNED;
+    uint8_t multiples[SYMBOLS * ROW] ALIGNED;
     const uint8_t *first = multiples + ROW;
     memset(multiples, 255, ROW);
     memcpy(multiples + ROW, row, ROW);
@@ -426,13 +487,13 @@ static void normal_form(const Fast *f, const uint16_t *inverses, const uint8_t *
         if (is_before(next, first, f->n))
             first = next;
     }
-    memcpy(form, first, 64);
+    memcpy(form, first, ROOM);
 }
 
 /* Exactly, among the words that share a signature. Places from n on go around, and are equal where those before are. */
 static int two_alike(const Fast *f, uint8_t (*rows)[ROW], const uint16_t *signature)
 {
-    uint8_t forms[32][64];
+    uint8_t forms[32][ROOM];
     uint16_t inverses[64];
     uint32_t formed = 0;
     inverse_rows(f, inverses);
@@ -486,36 +547,48 @@ INLINE int products_fit_in(Fast *f, const uint8_t *g, const int vecs)
 
 static int products_fit(Fast *f, const uint8_t *g)
 {
-    switch ((f->k + VB - 1) / VB) {
+    switch (LIMBS > 1 ? CHUNK : (f->k + VB - 1) / VB) {
     case 1: return products_fit_in(f, g, 1);
 #if VB == 16
     case 2: return products_fit_in(f, g, 2);
     case 3: return products_fit_in(f, g, 3);
 #endif
-    default: return products_fit_in(f, g, WORD);
+    default: return products_fit_in(f, g, CHUNK);
     }
 }
 
-/* Conditions 1 to 6 without the kinds of the dual words; leaves h. */
-static int head_fits(Fast *f, const uint8_t *book, size_t len, uint8_t *g, uint8_t *h)
+/* Conditions 1 to 3 without the kinds of the dual words. */
+static int shape_fits(Fast *f, const uint8_t *book, size_t len)
 {
-    int s, bad = 0;
-    if (len < 134 || len > 2118 || (len - 70) % 64 != 0 || book[0] != 1 || book[3] != 2 || book[67] != 3)
+    const int least = ROOM == 64 ? 2 : ROOM == 128 ? 7 : 8, most = ROOM == 64 ? 6 : least;
+    int s;
+    if (len < AT_DUALS + RECORD || len > AT_DUALS + 32 * RECORD || (len - AT_DUALS) % RECORD != 0)
+        return 0;
+    if (book[0] != 1 || book[3] != G_KIND || book[AT_MOST - 1] != 3)
         return 0;
     s = book[1];
     f->p = book[2];
-    if (s < 2 || s > 6 || f->p < 1 || f->p > s || s % f->p != 0)
+    if (s < least || s > most || f->p < 1 || f->p > 6 || s % f->p != 0)
         return 0;
     f->book = book;
-    f->duals = (int)(len - 70) / 64;
+    f->duals = (int)(len - AT_DUALS) / RECORD;
     f->q = 1 << f->p;
     f->n = (1 << s) - 1;
-    f->rounds = book[68];
-    f->places = book[69];
+    f->rounds = book[AT_MOST];
+    f->places = book[AT_MOST + 1];
     f->vecs = (f->n + VB - 1) / VB;
-    memcpy(g, book + AT_G, 63);
-    g[63] = 0;
-    for (int j = 0; j < 64; j++)
+    return 1;
+}
+
+/* Conditions 1 to 6, again without those kinds; leaves h. */
+static int head_fits(Fast *f, const uint8_t *book, size_t len, uint8_t *g, uint8_t *h)
+{
+    int bad = 0;
+    if (!shape_fits(f, book, len))
+        return 0;
+    memcpy(g, book + AT_G, RECORD - 1);
+    g[RECORD - 1] = 0;
+    for (int j = 0; j < RECORD; j++)
         bad |= j < f->n ? g[j] & ~(f->q - 1) : g[j];
     f->d = f->n - 1;
     while (f->d > 0 && g[f->d] == 0)
@@ -526,37 +599,32 @@ static int head_fits(Fast *f, const uint8_t *book, size_t len, uint8_t *g, uint8
     return quotient(f, g, h);
 }
 
+/* Where copies of a row of bits have a symbol's multiple, turned down by so many places, if there are several limbs. */
+INLINE int turn_at(int places, int symbol)
+{
+    return (symbol - 1) * ROW + (places & 7) * (ROW / 8) + (places >> 3);
+}
+
 /* Refusal 8 is found here, and any other number by the transcription. */
 static unsigned refusal(Fast *f, const uint8_t *book, size_t len)
 {
-    uint8_t g[64], *h = f->h;
+    uint8_t g[RECORD], *h = f->h;
     if (!head_fits(f, book, len, g, h) || !dual_words_fit(f) || !products_fit(f, g))
         return literal_check(book, len);
     if (f->duals > 1 && alike(f))
         return 8;
     f->terms = 0;
     for (int t = 0; t <= f->k; t++) {
-        f->test_at[f->terms] = (uint16_t)(h[t] * ROW + f->k - t);
+        f->test_at[f->terms] = (uint16_t)(LIMBS > 1 && f->p <= 2 ? turn_at(f->n - t, h[t]) : h[t] * ROW + f->k - t);
         f->terms += h[t] != 0;
     }
     return 0;
 }
 
-/* Scattering is one step for each place and term; marks are a vector, or four, for each row and term, which is less up to q 32. */
+/* Scattering is one step for each place and term; marks are some vectors for each row and term, which is less up to q 32. */
 static int scatters(const Fast *f)
 {
-    return f->q == 64;
-}
-
-/* The nonzero places of a dual word, as the bits of a number. */
-INLINE uint64_t support(const uint8_t *record)
-{
-    uint64_t bits = 0;
-    for (int i = 0; i < 8; i++) {
-        uint64_t x = (load64(record + 8 * i) + 0x7f7f7f7f7f7f7f7fu) >> 7 & 0x0101010101010101u;
-        bits |= (x * 0x0102040810204080u >> 56) << (8 * i);
-    }
-    return bits >> 1; /* the kind byte falls out */
+    return LIMBS == 1 && f->q == 64;
 }
 
 /* The lists that counting reads, made only for a word that is not clean. */
@@ -570,19 +638,21 @@ static void prepare(Fast *f)
         f->batch = MARKS / (2 * (f->q - 1) * f->width);
     for (int e = 0; e < f->q - 1; e++) {
         f->exps[e] = (uint8_t)x;
-        both[x] = (uint32_t)(x * ROW + n) | (uint32_t)(e * (scatters(f) ? 64 : f->width)) << 16;
+        both[x] = (uint32_t)(x * ROW + n) | (uint32_t)(e * (scatters(f) ? ROOM : f->width)) << 16;
         x <<= 1;
         x ^= x & f->q ? polynomials[f->p] : 0;
     }
     Term *to = f->lists;
     for (int l = 0, at = 0; l < f->duals; l++, at++) {
-        const uint8_t *b = f->book + AT_DUALS + 1 + 64 * l;
+        const uint8_t *b = f->book + AT_DUALS + 1 + RECORD * l;
+        uint32_t first;
         at = at < f->batch ? at : 0;
         uint32_t base = scatters(f) ? 0 : (uint32_t)(at * 2 * (f->q - 1) * f->width) << 16;
-        for (uint64_t left = support(b - 1); left; left &= left - 1) {
-            uint32_t u = (uint32_t)__builtin_ctzll(left), t = both[b[u]] + base + u * 0xffffu;
-            memcpy(to++, &t, 4);
-        }
+        for (int i = 0; i < LIMBS; i++)
+            for (uint64_t left = support(b - 1, i, &first); left; left &= left - 1) {
+                uint32_t u = first + (uint32_t)__builtin_ctzll(left), t = both[b[u]] + base + u * 0xffffu;
+                memcpy(to++, &t, 4);
+            }
     }
 }
 
@@ -599,32 +669,44 @@ static void load_word(Fast *f, const uint8_t *word)
     switch (f->vecs) {
     case 1: multiply(f->multiples, f->q, polynomials[f->p], 2); break;
     case 2: multiply(f->multiples, f->q, polynomials[f->p], 4); break;
-    default: multiply(f->multiples, f->q, polynomials[f->p], 8); break;
+    default: multiply(f->multiples, f->q, polynomials[f->p], 2 * WORD); break;
+    }
+}
+
+/* Whether the product with h is zero in a chunk, of which so many places are asked. */
+INLINE int is_zero_in(const Fast *f, const uint8_t *rows, int places)
+{
+    Vec sum[CHUNK];
+    switch ((places + VB - 1) / VB) {
+    case 1: sum_rows(rows, f->test_at, f->terms, 1, sum); return zero_below(sum, places, 1);
+#if VB == 16
+    case 2: sum_rows(rows, f->test_at, f->terms, 2, sum); return zero_below(sum, places, 2);
+    case 3: sum_rows(rows, f->test_at, f->terms, 3, sum); return zero_below(sum, places, 3);
+#endif
+    default: sum_rows(rows, f->test_at, f->terms, CHUNK, sum); return zero_below(sum, places, CHUNK);
     }
 }
 
 static int is_code_word(const Fast *f)
 {
-    Vec sum[WORD];
-    switch ((f->d + VB - 1) / VB) {
-    case 1: sum_rows(f->multiples, f->test_at, f->terms, 1, sum); return zero_below(sum, f->d, 1);
-#if VB == 16
-    case 2: sum_rows(f->multiples, f->test_at, f->terms, 2, sum); return zero_below(sum, f->d, 2);
-    case 3: sum_rows(f->multiples, f->test_at, f->terms, 3, sum); return zero_below(sum, f->d, 3);
-#endif
-    default: sum_rows(f->multiples, f->test_at, f->terms, WORD, sum); return zero_below(sum, f->d, WORD);
-    }
+    int at = 0;
+    for (; LIMBS > 1 && at + 64 < f->d; at += 64)
+        if (!is_zero_in(f, f->multiples + at, 64))
+            return 0;
+    return is_zero_in(f, f->multiples + at, f->d - at);
 }
 
 /* The product of a dual word and the word. */
 INLINE void sum_terms(const Fast *f, const Term *terms, const int vecs, Vec *sum)
 {
-    Vec s[WORD] = {0};
-    for (int i = 0; i < f->weight; i++)
-        for (int v = 0; v < vecs; v++)
-            s[v] ^= get(f->multiples + terms[i].sum_at + v * VB);
-    for (int v = 0; v < vecs; v++)
-        sum[v] = s[v];
+    for (int c = 0; c < vecs; c += CHUNK) {
+        Vec s[CHUNK] = {0};
+        for (int i = 0; i < f->weight; i++)
+            for (int v = 0; v < CHUNK && v < vecs; v++)
+                s[v] ^= get(f->multiples + terms[i].sum_at + (c + v) * VB);
+        for (int v = 0; v < CHUNK && v < vecs; v++)
+            sum[c + v] = s[v];
+    }
 }
 
 /* Marks of one dual word's product: row e, and row e + q - 1, tell where it is exp e. */
@@ -646,19 +728,19 @@ INLINE void mark(const Fast *f, uint8_t *row, const Vec *w, const int vecs)
     }
 }
 
-/* Adds a batch's counts, `rows` rows from row e on. */
-INLINE void add_rows(Fast *f, const Term *terms, int count, int e, const int rows, const int vecs)
+/* Adds a batch's counts, `rows` rows from row e on, in a chunk's places from `at` on. */
+INLINE void add_rows(Fast *f, const Term *terms, int count, int e, int at, const int rows, const int vecs)
 {
-    const int width = 2 * vecs * VB;
-    Vec sum[3][WORD] = {{{0}}};
-    const uint8_t *marks = f->marks + e * width;
+    const int width = 2 * (LIMBS > 1 ? WORD : vecs) * VB;
+    Vec sum[3][CHUNK] = {{{0}}};
+    const uint8_t *marks = f->marks + e * width + at;
     for (int i = 0; i < count; i++)
         for (int r = 0; r < rows; r++)
             for (int v = 0; v < vecs; v++)
                 sum[r][v] -= get(marks + terms[i].count_at + r * width + v * VB);
     for (int r = 0; r < rows; r++) {
         uint8_t bytes[64] ALIGNED;
-        int16_t *to = f->counts + (e + r) * 64;
+        int16_t *to = f->counts + (e + r) * ROOM + at;
         for (int v = 0; v < vecs; v++)
             put(bytes + v * VB, sum[r][v]);
         for (int j = 0; j < vecs * VB; j++)
@@ -671,18 +753,21 @@ INLINE void count_by_marks(Fast *f, const int vecs)
 {
     int rows = f->q - 1, size = 2 * rows * 2 * vecs * VB;
     const Term *terms = f->lists;
-    memset(f->counts, 0, (size_t)rows * 128);
+    memset(f->counts, 0, (size_t)rows * sizeof *f->counts * ROOM);
     for (int l = 0; l < f->duals; l += f->batch) {
-        int words = f->duals - l < f->batch ? f->duals - l : f->batch, e = 0;
+        int words = f->duals - l < f->batch ? f->duals - l : f->batch;
         for (int i = 0; i < words; i++) {
             Vec w[WORD];
             sum_terms(f, terms + i * f->weight, vecs, w);
             mark(f, f->marks + i * size, w, vecs);
         }
-        for (; e + 3 <= rows; e += 3)
-            add_rows(f, terms, words * f->weight, e, 3, vecs);
-        for (; e < rows; e++)
-            add_rows(f, terms, words * f->weight, e, 1, vecs);
+        for (int at = 0; at < vecs * VB; at += 64) {
+            int e = 0;
+            for (; e + 3 <= rows; e += 3)
+                add_rows(f, terms, words * f->weight, e, at, 3, vecs < CHUNK ? vecs : CHUNK);
+            for (; e < rows; e++)
+                add_rows(f, terms, words * f->weight, e, at, 1, vecs < CHUNK ? vecs : CHUNK);
+        }
         terms += words * f->weight;
     }
 }
@@ -736,7 +821,7 @@ INLINE void count_by_scatter(Fast *f, const int n, const int vecs)
 static void count(Fast *f)
 {
     if (scatters(f))
-        count_by_scatter(f, 63, WORD);
+        count_by_scatter(f, 63, CHUNK);
     else if (f->vecs == 1)
         count_by_marks(f, 1);
     else if (f->vecs == 2)
@@ -745,13 +830,13 @@ static void count(Fast *f)
         count_by_marks(f, WORD);
 }
 
-/* The largest t such that more than `most` of the 64 numbers are t or more. */
+/* The largest t such that more than `most` of the numbers are t or more. */
 INLINE int threshold(const int16_t *a, int most, int top)
 {
     int t = 0;
     for (int bit = top; bit; bit >>= 1) {
         Wide count = {0}, least = (Wide){0} + (int16_t)((t | bit) - 1);
-        for (int v = 0; v < 128 / VB; v++)
+        for (int v = 0; v < 2 * WORD; v++)
             count -= (Wide)(*(const Wide *)(a + v * VB / 2) > least);
         if ((int)wide_sum(count) > most)
             t |= bit;
@@ -762,26 +847,26 @@ INLINE int threshold(const int16_t *a, int most, int top)
 /* Subtracts the update set; says whether it was not empty. */
 static int update(Fast *f, uint8_t *word)
 {
-    int16_t peak[64] ALIGNED = {0}, total[64] ALIGNED = {0}, who[64] ALIGNED = {0};
+    int16_t peak[ROOM] ALIGNED = {0}, total[ROOM] ALIGNED = {0}, who[ROOM] ALIGNED = {0};
     int top = 1, low, high;
     uint8_t changed = 0;
     for (int e = 0; e < f->q - 1; e++) {
-        const int16_t *row = f->counts + e * 64;
+        const int16_t *row = f->counts + e * ROOM;
         int16_t symbol = f->exps[e];
-        for (int j = 0; j < 64; j++) {
+        for (int j = 0; j < ROOM; j++) {
             int16_t x = row[j], old = peak[j];
             total[j] = (int16_t)(total[j] + x);
             who[j] = x > old ? symbol : x == old ? 0 : who[j];
             peak[j] = x > old ? x : old;
         }
     }
-    for (int j = f->n; j < 64; j++)
+    for (int j = f->n; j < ROOM; j++)
         peak[j] = total[j] = 0;
     while (2 * top <= f->duals * f->weight)
         top *= 2;
     low = threshold(total, f->places, top);
     high = threshold(peak, f->places, top);
-    for (int j = 0; j < 64; j++) {
+    for (int j = 0; j < ROOM; j++) {
         uint8_t e = (uint8_t)(who[j] & -((total[j] > low) & (peak[j] > high)));
         word[j] ^= e;
         changed |= e;
@@ -790,14 +875,31 @@ static int update(Fast *f, uint8_t *word)
 }
 
 /*
- * p 1 and 2: a digit of all 63 symbols in one number. Check values stand one after the other in a stream, and a tree of full adders counts the
- * stream column by column, all columns at once.
+ * p 1 and 2: a digit of 64 symbols in one number. Check values stand one after the other in a stream, and a tree of full adders counts the stream
+ * column by column, all columns at once.
  */
 typedef struct {
-    uint64_t digit[2];
+    uint64_t digit[2][LIMBS];
 } Bits;
+typedef uint64_t Rows[3][LIMBS][PLANES];
 typedef uint64_t Pair __attribute__((vector_size(16), aligned(8), may_alias));
 
+INLINE Bits load_bits(const uint8_t *word, const int p)
+{
+    Bits r;
+    for (int a = 0; a < 2; a++)
+        for (int i = 0; i < LIMBS; i++)
+            r.digit[a][i] = a < p ? plane(word + 64 * i, a) : 0;
+    return r;
+}
+
+/* The places of a limb that are below n. */
+INLINE uint64_t places_of(const Fast *f, int limb)
+{
+    return limb < LIMBS - 1 ? ~(uint64_t)0 : ~(uint64_t)0 >> (ROOM - f->n);
+}
+
+#if ROOM == 64
 /* The digits of the multiples of a word by 1, 2 and 3 are pairs of neighbours here. */
 INLINE void spread(const uint64_t *digit, const int p, uint64_t *out)
 {
@@ -809,24 +911,17 @@ INLINE void spread(const uint64_t *digit, const int p, uint64_t *out)
     }
 }
 
-/* As prepare: a term's place and symbol for the product, its place and its symbol's inverse for the count. */
-INLINE void prepare_bits(Fast *f, const int p)
+/* A term's place and symbol for the product, its place and its symbol's inverse for the count. */
+INLINE uint32_t bit_term(uint32_t u, int symbol, const int p)
 {
     static const uint32_t both[4] = {0, 0, 1 | 2u << 24, 2 | 1u << 24};
-    Term *to = f->lists;
-    for (int l = 0; l < f->duals; l++) {
-        const uint8_t *b = f->book + AT_DUALS + 1 + 64 * l;
-        for (uint64_t left = support(b - 1); left; left &= left - 1) {
-            uint32_t u = (uint32_t)__builtin_ctzll(left), t = (p == 2 ? both[b[u]] : 0) + u * (p == 2 ? 0x10004u : 0x10001u);
-            memcpy(to++, &t, 4);
-        }
-    }
+    return (p == 2 ? both[symbol] : 0) + u * (p == 2 ? 0x10004u : 0x10001u);
 }
 
 INLINE int test_bits(const Fast *f, const Bits *r, const int p)
 {
-    uint64_t s[4], y[2] = {0};
-    spread(r->digit, p, s);
+    uint64_t s[4], y[2] = {0}, digit[2] = {r->digit[0][0], r->digit[1][0]};
+    spread(digit, p, s);
     for (int t = 0; t <= f->k; t++) {
         int c = f->h[t];
         if (p == 1)
@@ -841,11 +936,11 @@ INLINE int test_bits(const Fast *f, const Bits *r, const int p)
 /* The word turned by every t. */
 INLINE void turn_bits(Fast *f, const Bits *r, const int p)
 {
-    uint64_t mask = ~(uint64_t)0 >> (64 - f->n);
+    uint64_t mask = places_of(f, 0);
     for (int t = 0; t < f->n; t++) {
         uint64_t turned[2];
         for (int i = 0; i < p; i++)
-            turned[i] = (r->digit[i] << t | r->digit[i] >> (f->n - t)) & mask;
+            turned[i] = (r->digit[i][0] << t | r->digit[i][0] >> (f->n - t)) & mask;
         spread(turned, p, f->turns + t * (p == 2 ? 4 : 1));
     }
 }
@@ -867,8 +962,8 @@ INLINE void product_bits(const Fast *f, const Term *terms, const int p, uint64_t
     spread(w, p, s);
 }
 
-/* Every dual word's product with the word, divided by each of its symbols and turned, put into the stream; zeros fill it up. */
-INLINE int stream_bits(Fast *f, const Bits *r, const int p)
+/* Every dual word's product with the word, divided by each of its symbols and turned, put into the stream. */
+INLINE int stream_words(Fast *f, const Bits *r, const int p)
 {
     int n = f->n, out = 0;
     const Term *terms = f->lists;
@@ -888,10 +983,147 @@ INLINE int stream_bits(Fast *f, const Bits *r, const int p)
             }
         }
     }
-    while (out % (16 * (VB / 8))) {
-        f->stream[0][out] = f->stream[1][out] = 0;
-        out++;
+    return out;
+}
+#else
+/*
+ * A turn of several limbs is a load: a row of bits stands twice over, and that eight times, moved down by 0 to 7 places. For p 2 there are such copies,
+ * each a row of bytes long, of three rows; the digits of the multiples by 1, 2 and 3 are neighbours among them, the first being the last one's.
+ */
+typedef uint64_t Part __attribute__((vector_size(ROOM / 8 < VB ? ROOM / 8 : VB), aligned(1), may_alias));
+enum { PARTS = ROOM / 8 / sizeof(Part) };
+
+INLINE void lay_bits(const uint64_t *w, uint64_t *out)
+{
+    uint64_t twice[2 * LIMBS + 1];
+    for (int i = 0; i < LIMBS; i++) {
+        twice[i] = w[i];
+        twice[LIMBS + i] = w[i] >> 1 | (i + 1 < LIMBS ? w[i + 1] << 63 : 0);
     }
+    twice[LIMBS - 1] |= w[0] << 63;
+    twice[2 * LIMBS] = 0;
+    for (int i = 0; i < 2 * LIMBS; i += VB / 8) {
+        Quad low, high; /* put together in registers: a load that spans two fresh stores waits */
+        for (int z = 0; z < VB / 8; z++) {
+            low[z] = twice[i + z];
+            high[z] = twice[i + z + 1];
+        }
+        put(out + i, (Vec)low);
+        for (int down = 1; down < 8; down++)
+            put(out + down * 2 * LIMBS + i, (Vec)(low >> down | high << (64 - down)));
+    }
+}
+
+/* As a limb's spread, of copies. */
+INLINE void spread_bits(const Fast *f, const Bits *r, const int p, uint64_t *out)
+{
+    uint64_t w[3][LIMBS];
+    for (int i = 0; i < LIMBS; i++) {
+        w[0][i] = r->digit[0][i] & places_of(f, i);
+        w[1][i] = r->digit[1][i] & places_of(f, i);
+        w[2][i] = w[0][i] ^ w[1][i];
+    }
+    for (int a = 0; a < (p == 2 ? 3 : 1); a++)
+        lay_bits(w[a], out + a * ROW / 8);
+}
+
+/* Where a digit of a turned multiple is, the lower one's place being given. */
+INLINE const void *digit_at(const uint64_t *rows, int at, int digit)
+{
+    return (const uint8_t *)rows + (digit == 0 ? at : at < 2 * ROW ? at + ROW : at - 2 * ROW);
+}
+
+INLINE uint32_t bit_term(uint32_t u, int symbol, const int p)
+{
+    int inverse = p == 2 && symbol > 1 ? 5 - symbol : 1;
+    return (uint32_t)turn_at(ROOM - 1 - (int)u, symbol) | (uint32_t)turn_at((int)u, inverse) << 16;
+}
+
+INLINE void turn_bits(Fast *f, const Bits *r, const int p)
+{
+    spread_bits(f, r, p, f->turns);
+}
+
+/* Adds the digits of a turned multiple, or none of them. */
+INLINE void add_turned(const uint64_t *rows, int at, uint64_t keep, const int p, Part (*sum)[PARTS])
+{
+    for (int a = 0; a < p; a++)
+        for (int i = 0; i < PARTS; i++)
+            sum[a][i] ^= *((const Part *)digit_at(rows, at, a) + i) & keep;
+}
+
+INLINE Bits bits_of(Part (*sum)[PARTS])
+{
+    Bits w;
+    memcpy(&w, sum, sizeof w);
+    return w;
+}
+
+/* Leaves the turns of the word, which the products read. */
+INLINE int test_bits(Fast *f, const Bits *r, const int p)
+{
+    Part sum[2][PARTS] = {{{0}}};
+    uint64_t left = 0;
+    turn_bits(f, r, p);
+    for (int t = 0; t < f->terms; t++)
+        add_turned(f->turns, f->test_at[t], ~(uint64_t)0, p, sum);
+    Bits y = bits_of(sum);
+    for (int i = 0; i < LIMBS; i++)
+        left |= (y.digit[0][i] | y.digit[1][i]) & places_of(f, i);
+    return left == 0;
+}
+
+/* The product of a dual word and the word, in copies. */
+INLINE void product_bits(const Fast *f, const Term *terms, const int p, uint64_t *out)
+{
+    Part sum[2][PARTS] = {{{0}}};
+    for (int i = 0; i < f->weight; i++)
+        add_turned(f->turns, terms[i].sum_at, ~(uint64_t)0, p, sum);
+    Bits w = bits_of(sum);
+    spread_bits(f, &w, p, out);
+}
+
+/* As for one limb. Some products are made before any is read, since a load that spans two fresh stores waits. */
+INLINE int stream_words(Fast *f, const Bits *r, const int p)
+{
+    int out = 0;
+    (void)r; /* its turns are there since the test */
+    for (int l = 0; l < f->duals; l += BATCH) {
+        int words = f->duals - l < BATCH ? f->duals - l : BATCH;
+        const Term *terms = f->lists + l * f->weight;
+        for (int i = 0; i < words; i++)
+            product_bits(f, terms + i * f->weight, p, f->products[i]);
+        for (int i = 0; i < words; i++)
+            for (int z = 0; z < f->weight; z++, out++)
+                for (int a = 0; a < p; a++)
+                    memcpy(f->stream[a] + out * LIMBS, digit_at(f->products[i], terms[i * f->weight + z].count_at, a), 8 * LIMBS);
+    }
+    return out;
+}
+#endif
+
+/* As prepare, the terms those of the digits. */
+INLINE void prepare_bits(Fast *f, const int p)
+{
+    Term *to = f->lists;
+    uint32_t first;
+    for (int l = 0; l < f->duals; l++) {
+        const uint8_t *b = f->book + AT_DUALS + 1 + RECORD * l;
+        for (int i = 0; i < LIMBS; i++)
+            for (uint64_t left = support(b - 1, i, &first); left; left &= left - 1) {
+                uint32_t u = first + (uint32_t)__builtin_ctzll(left), t = bit_term(u, b[u], p);
+                memcpy(to++, &t, 4);
+            }
+    }
+}
+
+/* The stream's length in entries; zeros fill it up. */
+INLINE int stream_bits(Fast *f, const Bits *r, const int p)
+{
+    int out = stream_words(f, r, p);
+    for (; out * LIMBS % (16 * STEP); out++)
+        for (int i = 0; i < LIMBS; i++)
+            f->stream[0][out * LIMBS + i] = f->stream[1][out * LIMBS + i] = 0;
     return out;
 }
 
@@ -912,14 +1144,14 @@ INLINE Quad form_of(const Fast *f, int i, const int p, const int form)
     return form == 0 ? a & ~b : form == 1 ? b & ~a : a & b;
 }
 
-/* Counts of one row of the matrix, digit by digit, each lane for itself. */
-INLINE void count_form(const Fast *f, int count, const int p, const int form, Quad *sum)
+/* Counts of one row of the matrix, digit by digit, each lane for itself; lanes from `first` on, where an entry is longer than a vector. */
+INLINE void count_form(const Fast *f, int count, int first, const int p, const int form, Quad *sum)
 {
-    const int step = VB / 8;
+    const int step = STEP;
     Quad c[4] = {{0}};
     for (int i = 4; i < PLANES; i++)
         sum[i] = (Quad){0};
-    for (int i = 0; i < count; i += 16 * step) {
+    for (int i = first; i < count * LIMBS; i += 16 * step) {
         Quad eights[2], carry;
         for (int z = 0; z < 2; z++) {
             Quad fours[2];
@@ -954,17 +1186,21 @@ INLINE void add_numbers(uint64_t *a, const uint64_t *b)
     }
 }
 
-INLINE void count_row(const Fast *f, int count, const int p, const int form, uint64_t *row)
+/* Where a vector has several entries, their counts are added. */
+INLINE void count_row(const Fast *f, int count, const int p, const int form, uint64_t (*row)[PLANES])
 {
-    Quad sum[PLANES];
-    uint64_t other[PLANES];
-    count_form(f, count, p, form, sum);
-    for (int k = 0; k < PLANES; k++)
-        row[k] = sum[k][0];
-    for (int lane = 1; lane < VB / 8; lane++) {
-        for (int k = 0; k < PLANES; k++)
-            other[k] = sum[k][lane];
-        add_numbers(row, other);
+    for (int first = 0; first < LIMBS; first += VB / 8) {
+        Quad sum[PLANES];
+        uint64_t other[PLANES];
+        count_form(f, count, first, p, form, sum);
+        for (int lane = 0; lane < VB / 8 && first + lane < LIMBS; lane++)
+            for (int k = 0; k < PLANES; k++)
+                row[first + lane][k] = sum[k][lane];
+        for (int lane = LIMBS; lane < VB / 8; lane++) {
+            for (int k = 0; k < PLANES; k++)
+                other[k] = sum[k][lane];
+            add_numbers(row[lane % LIMBS], other);
+        }
     }
 }
 
@@ -975,20 +1211,28 @@ INLINE int ones(uint64_t x)
     return (int)(((x + (x >> 4)) & 0x0f0f0f0f0f0f0f0fu) * 0x0101010101010101u >> 56);
 }
 
-/* The columns, of those in the mask, whose numbers at most `most` columns reach. */
-INLINE uint64_t highest(const uint64_t *number, uint64_t mask, int most)
+/* The columns below n whose numbers at most `most` columns reach. */
+INLINE void highest(const Fast *f, uint64_t (*number)[PLANES], int most, uint64_t *above)
 {
-    uint64_t above = 0, level = mask;
-    for (int k = PLANES - 1; k >= 0; k--) {
-        uint64_t reach = above | (level & number[k]);
-        if (ones(reach) > most) {
-            level &= number[k];
-        } else {
-            above = reach;
-            level &= ~number[k];
-        }
+    uint64_t level[LIMBS], reach[LIMBS];
+    for (int i = 0; i < LIMBS; i++) {
+        above[i] = 0;
+        level[i] = places_of(f, i);
     }
-    return above;
+    for (int k = PLANES - 1; k >= 0; k--) {
+        int count = 0;
+        for (int i = 0; i < LIMBS; i++) {
+            reach[i] = above[i] | (level[i] & number[i][k]);
+            count += ones(reach[i]);
+        }
+        for (int i = 0; i < LIMBS; i++)
+            if (count > most) {
+                level[i] &= number[i][k];
+            } else {
+                above[i] = reach[i];
+                level[i] &= ~number[i][k];
+            }
+    }
 }
 
 /* Where a is above b, and where they are equal. */
@@ -1009,7 +1253,7 @@ INLINE void choose(uint64_t *a, const uint64_t *b, uint64_t keep)
         a[k] = (a[k] & keep) | (b[k] & ~keep);
 }
 
-INLINE void count_bits(const Fast *f, int count, const int p, uint64_t rows[3][PLANES])
+INLINE void count_bits(const Fast *f, int count, const int p, Rows rows)
 {
     count_row(f, count, p, 0, rows[0]);
     if (p == 2) {
@@ -1018,21 +1262,39 @@ INLINE void count_bits(const Fast *f, int count, const int p, uint64_t rows[3][P
     }
 }
 
-/* What to subtract. For p 1 the peak is the sum of the rows and has one holder. */
-INLINE Bits update_bits(const Fast *f, uint64_t rows[3][PLANES], const int p)
+/* Leaves the largest of a limb's rows in the first, and which symbols' digits it has: none where two rows have it. */
+INLINE void peak_bits(Rows rows, int i, uint64_t *low, uint64_t *high)
 {
-    uint64_t total[PLANES], a12, e12, a, e, set, mask = ~(uint64_t)0 >> (64 - f->n), *peak = rows[0];
-    if (p == 1)
-        return (Bits){{highest(peak, mask, f->places), 0}};
-    memcpy(total, peak, sizeof total);
-    add_numbers(total, rows[1]);
-    add_numbers(total, rows[2]);
-    compare(peak, rows[1], &a12, &e12);
-    choose(peak, rows[1], a12);
-    compare(peak, rows[2], &a, &e);
-    choose(peak, rows[2], a);
-    set = highest(total, mask, f->places) & highest(peak, mask, f->places);
-    return (Bits){{set & ((a & a12) | ~(a | e)), set & ((a & ~a12 & ~e12) | ~(a | e))}};
+    uint64_t a12, e12, a, e, *peak = rows[0][i];
+    compare(peak, rows[1][i], &a12, &e12);
+    choose(peak, rows[1][i], a12);
+    compare(peak, rows[2][i], &a, &e);
+    choose(peak, rows[2][i], a);
+    *low = (a & a12) | ~(a | e);
+    *high = (a & ~a12 & ~e12) | ~(a | e);
+}
+
+/* What to subtract. For p 1 the peak is the sum of the rows and has one holder. */
+INLINE Bits update_bits(const Fast *f, Rows rows, const int p)
+{
+    Bits who = {{{0}}};
+    uint64_t total[LIMBS][PLANES], few[LIMBS], many[LIMBS];
+    if (p == 1) {
+        highest(f, rows[0], f->places, who.digit[0]);
+        return who;
+    }
+    for (int i = 0; i < LIMBS; i++) {
+        memcpy(total[i], rows[0][i], sizeof total[i]);
+        add_numbers(total[i], rows[1][i]);
+        add_numbers(total[i], rows[2][i]);
+        peak_bits(rows, i, &who.digit[0][i], &who.digit[1][i]);
+    }
+    highest(f, total, f->places, few);
+    highest(f, rows[0], f->places, many);
+    for (int i = 0; i < LIMBS; i++)
+        for (int a = 0; a < 2; a++)
+            who.digit[a][i] &= few[i] & many[i];
+    return who;
 }
 
 static uint32_t packed(char kind, int rounds, int changed)
@@ -1042,31 +1304,49 @@ static uint32_t packed(char kind, int rounds, int changed)
 
 INLINE void store_bits(const Bits *r, int n, uint8_t *answer)
 {
-    for (int j = 0; j < n; j++)
-        answer[j] = (uint8_t)((r->digit[0] >> j & 1) | (r->digit[1] >> j & 1) << 1);
+    for (int i = 0; i < LIMBS; i++)
+        for (int j = 0; j < (i < LIMBS - 1 ? 64 : n - 64 * i); j++)
+            answer[64 * i + j] = (uint8_t)((r->digit[0][i] >> j & 1) | (r->digit[1][i] >> j & 1) << 1);
+}
+
+/* Whether anything is changed in the word. */
+INLINE int subtract_bits(Bits *r, const Bits *e)
+{
+    uint64_t any = 0;
+    for (int a = 0; a < 2; a++)
+        for (int i = 0; i < LIMBS; i++) {
+            any |= e->digit[a][i];
+            r->digit[a][i] ^= e->digit[a][i];
+        }
+    return any != 0;
+}
+
+INLINE int changed_bits(const Bits *r, const Bits *first)
+{
+    int count = 0;
+    for (int i = 0; i < LIMBS; i++)
+        count += ones((r->digit[0][i] ^ first->digit[0][i]) | (r->digit[1][i] ^ first->digit[1][i]));
+    return count;
 }
 
 INLINE uint32_t run_bits(Fast *f, const uint8_t *received, const uint8_t *word, int *ready, uint8_t *answer, const int p)
 {
-    Bits r = {{plane(word, 0), p == 2 ? plane(word, 1) : 0}}, first = r;
-    size_t n = (size_t)f->n;
-    memcpy(answer, received, n);
+    Bits r = load_bits(word, p), first = r;
+    memcpy(answer, received, (size_t)f->n);
     if (test_bits(f, &r, p))
         return packed('C', 0, 0);
     if (!*ready)
         prepare_bits(f, p);
     *ready = 1;
     for (int round = 1; round <= f->rounds; round++) {
-        uint64_t rows[3][PLANES];
+        Rows rows;
         count_bits(f, stream_bits(f, &r, p), p, rows);
         Bits e = update_bits(f, rows, p);
-        if ((e.digit[0] | e.digit[1]) == 0)
+        if (!subtract_bits(&r, &e))
             return packed('S', round, 0);
-        r.digit[0] ^= e.digit[0];
-        r.digit[1] ^= e.digit[1];
         if (test_bits(f, &r, p)) {
             store_bits(&r, f->n, answer);
-            return packed('M', round, ones((r.digit[0] ^ first.digit[0]) | (r.digit[1] ^ first.digit[1])));
+            return packed('M', round, changed_bits(&r, &first));
         }
     }
     return packed('X', f->rounds, 0);
@@ -1110,7 +1390,7 @@ INLINE unsigned take_symbols(const Fast *f, const uint8_t *given, size_t length,
 
 static uint32_t decode_word(Fast *f, const uint8_t *received, int *ready, uint8_t *answer)
 {
-    uint8_t word[64] ALIGNED = {0};
+    uint8_t word[ROOM] ALIGNED = {0};
     if (take_symbols(f, received, (size_t)f->n, word))
         return 11;
     if (f->p == 1)
@@ -1120,7 +1400,7 @@ static uint32_t decode_word(Fast *f, const uint8_t *received, int *ready, uint8_
     return run(f, received, word, ready, answer);
 }
 
-uint32_t FAST(check)(const uint8_t *book, size_t book_len)
+uint32_t SIZED(check)(const uint8_t *book, size_t book_len)
 {
     Fast f;
     unsigned number = refusal(&f, book, book_len);
@@ -1128,12 +1408,12 @@ uint32_t FAST(check)(const uint8_t *book, size_t book_len)
 }
 
 /* Symbols whose digits stand in p numbers. Eight bits at a time become bytes by a multiplication. */
-INLINE void put_symbols(const int p, const uint64_t *digit, int count, uint8_t *out)
+INLINE void put_symbols(const int p, uint64_t (*digit)[LIMBS], int count, uint8_t *out)
 {
     for (int i = 0; i < count; i += 8) {
         uint64_t bytes = 0;
         for (int a = 0; a < p; a++) {
-            uint64_t bits = (digit[a] >> i & 255) * 0x0101010101010101u & 0x8040201008040201u;
+            uint64_t bits = (digit[a][LIMBS == 1 ? 0 : i / 64] >> i % 64 & 255) * 0x0101010101010101u & 0x8040201008040201u;
             bytes |= ((bits + 0x7f7f7f7f7f7f7f7fu) >> 7 & 0x0101010101010101u) << a;
         }
         memcpy(out + i, &bytes, 8);
@@ -1141,25 +1421,30 @@ INLINE void put_symbols(const int p, const uint64_t *digit, int count, uint8_t *
 }
 
 /* The word through the shift register: after k steps its top d bits are what is left. */
-INLINE void divide_by(const int p, const Fast *f, const uint8_t *word, uint64_t (*rows)[6], uint8_t *rest)
+INLINE void divide_by(const int p, const Fast *f, const uint8_t *word, uint64_t (*rows)[6][LIMBS], uint8_t *rest)
 {
-    uint64_t state[6];
+    uint64_t state[6][LIMBS];
+    uint8_t cells[ROOM];
     if (p <= 3)
         register_rows(p, f->book + AT_G, f->d, rows);
-    for (int a = 0; a < p; a++)
-        state[a] = plane(word, a) << (64 - f->n);
+    top_planes(p, word, f->n, state);
     for (int i = 0; i < f->k; i++)
         register_step(p, rows, state);
-    for (int a = 0; a < p; a++)
-        state[a] >>= 64 - f->d;
-    put_symbols(p, state, f->d, rest);
+    if (LIMBS == 1) {
+        for (int a = 0; a < p; a++)
+            state[a][0] >>= 64 - f->d;
+        put_symbols(p, state, f->d, rest);
+    } else {
+        put_symbols(p, state, ROOM, cells);
+        memcpy(rest, cells + ROOM - f->d, (size_t)f->d);
+    }
 }
 
-uint32_t FAST(remainder)(const uint8_t *book, size_t book_len, const uint8_t *word, size_t word_len, uint8_t *remainder, size_t remainder_len)
+uint32_t SIZED(remainder)(const uint8_t *book, size_t book_len, const uint8_t *word, size_t word_len, uint8_t *remainder, size_t remainder_len)
 {
     Fast f;
-    uint64_t few[8][6];
-    uint8_t padded[64] ALIGNED = {0}, rest[64];
+    uint64_t few[8][6][LIMBS];
+    uint8_t padded[ROOM] ALIGNED = {0}, rest[ROOM];
     unsigned number = refusal(&f, book, book_len);
     if (number)
         return number;
@@ -1172,15 +1457,18 @@ uint32_t FAST(remainder)(const uint8_t *book, size_t book_len, const uint8_t *wo
     switch (f.p) {
     case 1: divide_by(1, &f, padded, few, rest); break;
     case 2: divide_by(2, &f, padded, few, rest); break;
-    case 3: divide_by(3, &f, padded, few, rest); break;
     case 4: divide_by(4, &f, padded, f.steps, rest); break;
+#if ROOM == 64
+    case 3: divide_by(3, &f, padded, few, rest); break;
     case 5: divide_by(5, &f, padded, f.steps, rest); break;
     default: divide_by(6, &f, padded, f.steps, rest); break;
+#endif
     }
     memcpy(remainder, rest, remainder_len);
     return 0;
 }
 
+#if ROOM == 64
 /*
  * A product of polynomials over GF(2), of degree 63 at most, by products of numbers. Factors keep every fourth digit, so that a sum of up to 15
  * ones stays clear of the next column that is read. Only columns at the top have 16, and their carry falls out.
@@ -1199,28 +1487,44 @@ INLINE uint64_t bit_product(uint64_t a, uint64_t b)
 }
 
 /* Message times g, for p 1 and 2. The kind byte before g falls out, and 64 bytes are read. */
-INLINE void code_bits(const int p, const Fast *f, const uint8_t *message, uint8_t *word)
+INLINE void code_bits(const int p, Fast *f, const uint8_t *message, int length, uint8_t *word)
 {
     const uint8_t *g = f->book + AT_G - 1;
-    uint64_t low = plane(message, 0), g_low = plane(g, 0) >> 1, digit[2];
-    digit[0] = bit_product(low, g_low);
+    uint64_t low = plane(message, 0), g_low = plane(g, 0) >> 1, digit[2][LIMBS];
+    (void)length; /* places that are not given are 0 */
+    digit[0][0] = bit_product(low, g_low);
     if (p == 2) {
         uint64_t high = plane(message, 1), g_high = plane(g, 1) >> 1;
-        digit[1] = digit[0] ^ bit_product(low ^ high, g_low ^ g_high);
-        digit[0] ^= bit_product(high, g_high);
+        digit[1][0] = digit[0][0] ^ bit_product(low ^ high, g_low ^ g_high);
+        digit[0][0] ^= bit_product(high, g_high);
     }
     put_symbols(p, digit, f->n, word);
 }
+#else
+/* The same as a sum of turns. What is read behind g is no place. */
+INLINE void code_bits(const int p, Fast *f, const uint8_t *message, int length, uint8_t *word)
+{
+    Part sum[2][PARTS] = {{{0}}};
+    Bits bits = load_bits(f->book + AT_G, p);
+    turn_bits(f, &bits, p);
+    for (int u = 0; u < length; u++)
+        add_turned(f->turns, turn_at(f->n - u, message[u] ? message[u] : 1), -(uint64_t)(message[u] != 0), p, sum);
+    bits = bits_of(sum);
+    put_symbols(p, bits.digit, f->n, word);
+}
+#endif
 
 /* Message times g, as a sum of multiples of g, each turned by its place in the message. */
 INLINE void code_rows(const Fast *f, const uint8_t *message, int length, const int vecs, uint8_t *word)
 {
-    Vec sum[WORD] = {{0}};
-    for (int u = 0; u < length; u++)
-        for (int v = 0; v < vecs; v++)
-            sum[v] ^= get(f->multiples + message[u] * ROW + f->k - 1 - u + v * VB);
-    for (int v = 0; v < vecs; v++)
-        put(word + v * VB, sum[v]);
+    for (int c = 0; c < vecs; c += CHUNK) {
+        Vec sum[CHUNK] = {{0}};
+        for (int u = 0; u < length; u++)
+            for (int v = 0; v < CHUNK && v < vecs; v++)
+                sum[v] ^= get(f->multiples + message[u] * ROW + f->k - 1 - u + (c + v) * VB);
+        for (int v = 0; v < CHUNK && v < vecs; v++)
+            put(word + (c + v) * VB, sum[v]);
+    }
 }
 
 /* From p 4 on the check has left the rows. */
@@ -1235,10 +1539,10 @@ static void code_symbols(Fast *f, const uint8_t *message, int length, uint8_t *w
     }
 }
 
-uint32_t FAST(code)(const uint8_t *book, size_t book_len, const uint8_t *message, size_t message_len, uint8_t *word, size_t word_len)
+uint32_t SIZED(code)(const uint8_t *book, size_t book_len, const uint8_t *message, size_t message_len, uint8_t *word, size_t word_len)
 {
     Fast f;
-    uint8_t padded[64] ALIGNED = {0}, product[64] ALIGNED;
+    uint8_t padded[ROOM] ALIGNED = {0}, product[ROOM] ALIGNED;
     unsigned number = refusal(&f, book, book_len);
     if (number)
         return number;
@@ -1249,15 +1553,15 @@ uint32_t FAST(code)(const uint8_t *book, size_t book_len, const uint8_t *message
     if (take_symbols(&f, message, message_len, padded))
         return 11;
     switch (f.p) {
-    case 1: code_bits(1, &f, padded, product); break;
-    case 2: code_bits(2, &f, padded, product); break;
+    case 1: code_bits(1, &f, padded, (int)message_len, product); break;
+    case 2: code_bits(2, &f, padded, (int)message_len, product); break;
     default: code_symbols(&f, padded, (int)message_len, product); break;
     }
     memcpy(word, product, word_len);
     return 0;
 }
 
-uint32_t FAST(decode)(const uint8_t *book, size_t book_len, const uint8_t *received, size_t received_len, uint8_t *answer, size_t answer_len)
+uint32_t SIZED(decode)(const uint8_t *book, size_t book_len, const uint8_t *received, size_t received_len, uint8_t *answer, size_t answer_len)
 {
     Fast f;
     int ready = 0;
@@ -1276,7 +1580,7 @@ typedef struct {
     int ready;
 } Opened;
 
-size_t FAST(room)(void)
+size_t SIZED(room)(void)
 {
     return sizeof(Opened) + 64;
 }
@@ -1286,7 +1590,7 @@ static Opened *opened(void *room)
     return (Opened *)(((uintptr_t)room + 63) & ~(uintptr_t)63);
 }
 
-uint32_t FAST(open)(void *room, const uint8_t *book, size_t book_len)
+uint32_t SIZED(open)(void *room, const uint8_t *book, size_t book_len)
 {
     Opened *o = opened(room);
     unsigned number = refusal(&o->f, book, book_len);
@@ -1294,17 +1598,17 @@ uint32_t FAST(open)(void *room, const uint8_t *book, size_t book_len)
     return number ? number : 256u * (unsigned)o->f.duals;
 }
 
-uint32_t FAST(next)(void *room, const uint8_t *received, uint8_t *answer)
+uint32_t SIZED(next)(void *room, const uint8_t *received, uint8_t *answer)
 {
     Opened *o = opened(room);
     return decode_word(&o->f, received, &o->ready, answer);
 }
 
 /* Parts where digits are numbers. What a part finds goes to `seen`, so that it is not left out. */
-INLINE void part_bits(Fast *f, enum FastPart part, const uint8_t *word, const int p, uint64_t rows[3][PLANES], uint64_t *seen)
+INLINE void part_bits(Fast *f, enum FastPart part, const uint8_t *word, const int p, Rows rows, uint64_t *seen)
 {
-    Bits r = {{plane(word, 0), p == 2 ? plane(word, 1) : 0}};
-    uint64_t s[4];
+    Bits r = load_bits(word, p);
+    uint64_t one[4], *s = LIMBS == 1 ? one : f->products[0];
     if (part == FAST_LISTS)
         prepare_bits(f, p);
     else if (part == FAST_TEST)
@@ -1318,7 +1622,7 @@ INLINE void part_bits(Fast *f, enum FastPart part, const uint8_t *word, const in
     } else if (part == FAST_MATRIX)
         count_bits(f, stream_bits(f, &r, p), p, rows);
     else
-        *seen += update_bits(f, rows, p).digit[0];
+        *seen += update_bits(f, rows, p).digit[0][0];
 }
 
 static void part_bytes(Fast *f, enum FastPart part, uint8_t *word, uint64_t *seen)
@@ -1340,7 +1644,7 @@ static void part_bytes(Fast *f, enum FastPart part, uint8_t *word, uint64_t *see
         *seen += (unsigned)update(f, word);
 }
 
-static void any_part(Fast *f, enum FastPart part, const uint8_t *book, size_t book_len, uint8_t *word, uint64_t rows[3][PLANES], uint64_t *seen)
+static void any_part(Fast *f, enum FastPart part, const uint8_t *book, size_t book_len, uint8_t *word, Rows rows, uint64_t *seen)
 {
     if (part == FAST_CHECK)
         *seen += refusal(f, book, book_len);
@@ -1352,11 +1656,12 @@ static void any_part(Fast *f, enum FastPart part, const uint8_t *book, size_t bo
         part_bytes(f, part, word, seen);
 }
 
-uint64_t FAST(part)(void *room, enum FastPart part, const uint8_t *book, size_t book_len, const uint8_t *received, long times)
+uint64_t SIZED(part)(void *room, enum FastPart part, const uint8_t *book, size_t book_len, const uint8_t *received, long times)
 {
     Fast *f = &opened(room)->f;
-    uint8_t word[64] ALIGNED = {0};
-    uint64_t rows[3][PLANES] = {{0}}, seen = 0;
+    uint8_t word[ROOM] ALIGNED = {0};
+    Rows rows = {{{0}}};
+    uint64_t seen = 0;
     refusal(f, book, book_len);
     memcpy(word, received, (size_t)f->n);
     for (enum FastPart before = FAST_CHECK; before < part; before++) /* what the part reads */

@@ -13,6 +13,7 @@
 #define FAST_JOIN(a, b) a##_##b
 #define FAST_NAME(a, b) FAST_JOIN(a, b)
 #define FAST(b) FAST_NAME(NAME, b)
+#define FAST_SIZED(room, b) FAST_NAME(FAST_NAME(NAME, room), b)
 
 uint32_t FAST(check)(const uint8_t *book, size_t book_len);
 uint32_t FAST(code)(const uint8_t *book, size_t book_len, const uint8_t *message, size_t message_len, uint8_t *word, size_t word_len);

@@ -6,11 +6,12 @@
 
 #include <string.h>
 
-enum { AT_G = 4, AT_I = 68, AT_D = 69, AT_DUAL_WORDS = 70 };
+enum { AT_G = 4, SHORT = 63, LONG = 255 };
 
+/* Width is the length of a body: a record of kind 2, 4, 5 or 6 has one byte more. */
 typedef struct {
-    int p, q, n, degree, duals;
-    const uint8_t *book, *g;
+    int width, p, q, n, degree, duals;
+    const uint8_t *book, *g, *most; /* most: I and D */
 } Book;
 
 static uint8_t product(int p, uint8_t a, uint8_t b)
@@ -37,7 +38,7 @@ static uint8_t inverse(int p, uint8_t a)
 
 static const uint8_t *dual_word(const Book *c, int l)
 {
-    return c->book + AT_DUAL_WORDS + 64 * l + 1;
+    return c->book + c->width + 7 + (c->width + 1) * l + 1;
 }
 
 static int weight(const Book *c, const uint8_t *w)
@@ -62,7 +63,7 @@ static void divide(const Book *c, const uint8_t *word, int length, uint8_t *rest
 /* Whether there is no remainder. */
 static int divides(const Book *c, const uint8_t *word, int length)
 {
-    uint8_t rest[64];
+    uint8_t rest[LONG + 1];
     divide(c, word, length, rest);
     for (int i = 0; i < c->degree && i < length; i++)
         if (rest[i])
@@ -72,7 +73,7 @@ static int divides(const Book *c, const uint8_t *word, int length)
 
 static int bad_body(const Book *c, const uint8_t *body)
 {
-    for (int j = 0; j < 63; j++)
+    for (int j = 0; j < c->width; j++)
         if (j < c->n ? body[j] >= c->q : body[j] != 0)
             return 1;
     return 0;
@@ -80,14 +81,14 @@ static int bad_body(const Book *c, const uint8_t *body)
 
 static int bad_generator(const Book *c)
 {
-    uint8_t whole[64] = {0};
+    uint8_t whole[LONG + 1] = {0};
     whole[0] = whole[c->n] = 1;
     return c->degree < 1 || c->g[c->degree] != 1 || !divides(c, whole, c->n + 1);
 }
 
 static int bad_dual_word(const Book *c, const uint8_t *b)
 {
-    uint8_t sum[63] = {0};
+    uint8_t sum[LONG] = {0};
     if (b[0] != 1 || weight(c, b) != weight(c, dual_word(c, 0)))
         return 1;
     for (int u = 0; u < c->n; u++)
@@ -126,21 +127,44 @@ static int alike(const Book *c, const uint8_t *a, const uint8_t *b)
     return 0;
 }
 
+/* How many dual words a book of this length has in the form of a width; 0 where the length is not one of the form. */
+static int dual_words(size_t len, size_t width)
+{
+    size_t most = 32, head = width + 7, record = width + 1;
+    if (len < head || (len - head) % record != 0 || (len - head) / record > most)
+        return 0;
+    return (int)((len - head) / record);
+}
+
+/* Conditions 1 and 2: byte 3 chooses the form. */
+static unsigned form(Book *c, const uint8_t *book, size_t len)
+{
+    int in_short = dual_words(len, SHORT), in_long = dual_words(len, LONG);
+    if (len < 4 || (book[3] == 2 ? !in_short : book[3] == 5 ? !in_long : !in_short && !in_long))
+        return 1;
+    if (book[3] != 2 && book[3] != 5)
+        return 2;
+    c->book = book;
+    c->width = book[3] == 2 ? SHORT : LONG;
+    c->duals = book[3] == 2 ? in_short : in_long;
+    if (book[0] != 1 || book[AT_G + c->width] != 3)
+        return 2;
+    for (int l = 0; l < c->duals; l++)
+        if (*(dual_word(c, l) - 1) != (book[3] == 2 ? 4 : 6))
+            return 2;
+    return 0;
+}
+
 /* Conditions 1 to 3, which tell how to read the rest. */
 static unsigned shape(Book *c, const uint8_t *book, size_t len)
 {
-    if (len < 134 || len > 2118 || (len - 70) % 64 != 0)
-        return 1;
-    c->duals = (int)((len - 70) / 64);
-    if (book[0] != 1 || book[3] != 2 || book[67] != 3)
-        return 2;
-    for (int l = 0; l < c->duals; l++)
-        if (book[AT_DUAL_WORDS + 64 * l] != 4)
-            return 2;
-    if (book[1] < 2 || book[1] > 6 || book[2] < 1 || book[1] % book[2] != 0)
+    unsigned number = form(c, book, len);
+    if (number)
+        return number;
+    if (book[1] < (c->width == SHORT ? 2 : 7) || book[1] > (c->width == SHORT ? 6 : 8) || book[2] < 1 || book[2] > 6 || book[1] % book[2] != 0)
         return 3;
-    c->book = book;
     c->g = book + AT_G;
+    c->most = c->g + c->width + 1;
     c->p = book[2];
     c->q = 1 << c->p;
     c->n = (1 << book[1]) - 1;
@@ -160,7 +184,7 @@ static unsigned refusal(Book *c, const uint8_t *book, size_t len)
         c->degree--;
     if (bad_generator(c))
         return 5;
-    if (book[AT_I] < 1 || book[AT_I] > 63 || book[AT_D] < 1 || book[AT_D] > c->n)
+    if (c->most[0] < 1 || c->most[0] > 63 || c->most[1] < 1 || c->most[1] > c->n)
         return 6;
     for (int l = 0; l < c->duals; l++)
         if (bad_dual_word(c, dual_word(c, l)))
@@ -203,7 +227,7 @@ static void count(const Book *c, const uint8_t *word, uint16_t *m)
 /* The symbol to subtract at place j, 0 outside the update set. */
 static uint8_t correction(const Book *c, const uint16_t *m, const uint16_t *peak, int j)
 {
-    int low = 0, high = 0, having = 0, most = c->book[AT_D];
+    int low = 0, high = 0, having = 0, most = c->most[1];
     uint8_t symbol = 0;
     for (int o = 0; o < c->n; o++) {
         low += m[o] <= m[j];
@@ -220,7 +244,7 @@ static uint8_t correction(const Book *c, const uint16_t *m, const uint16_t *peak
 /* Subtracts the update set from the word; says whether it was not empty. */
 static int update(const Book *c, const uint16_t *m, uint8_t *word)
 {
-    uint16_t peak[63] = {0};
+    uint16_t peak[LONG] = {0};
     int any = 0;
     for (int i = 1; i < c->q; i++)
         for (int j = 0; j < c->n; j++)
@@ -241,9 +265,9 @@ static uint32_t packed(char kind, unsigned rounds, unsigned changed)
 
 static uint32_t rounds(const Book *c, const uint8_t *received, uint8_t *answer)
 {
-    uint16_t m[64 * 63];
-    uint8_t word[63];
-    unsigned changed = 0, most = c->book[AT_I];
+    uint16_t m[16 * 255]; /* q * n at most */
+    uint8_t word[LONG];
+    unsigned changed = 0, most = c->most[0];
     size_t n = (size_t)c->n;
     memcpy(answer, received, n);
     if (divides(c, received, c->n))
@@ -283,7 +307,7 @@ uint32_t literal_decode(const uint8_t *book, size_t book_len, const uint8_t *rec
 uint32_t literal_code(const uint8_t *book, size_t book_len, const uint8_t *message, size_t message_len, uint8_t *word, size_t word_len)
 {
     Book c;
-    uint8_t whole[63] = {0};
+    uint8_t whole[LONG] = {0};
     unsigned number = refusal(&c, book, book_len);
     if (number)
         return number;
@@ -302,7 +326,7 @@ uint32_t literal_code(const uint8_t *book, size_t book_len, const uint8_t *messa
 uint32_t literal_remainder(const uint8_t *book, size_t book_len, const uint8_t *word, size_t word_len, uint8_t *remainder, size_t remainder_len)
 {
     Book c;
-    uint8_t rest[64];
+    uint8_t rest[LONG];
     unsigned number = refusal(&c, book, book_len);
     if (number)
         return number;

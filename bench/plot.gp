@@ -1,5 +1,5 @@
 # Run in target/bench. growth.svg: a round's time against L * weight * n, with a straight line beside it to judge by. ratios.svg: whole decodes, ours / best C.
-set terminal svg size 760,480 font "sans,12"
+set terminal svg size 960,480 font "sans,12"
 set datafile separator ","
 set key left top
 set grid
@@ -24,4 +24,4 @@ set yrange [0.5:*]
 set key right top
 set rmargin 8
 set bmargin 7
-plot "table.csv" every ::1::15 using 10:xtic(strcol(1)." ".strcol(2)) title "gcc", "" every ::1::15 using 11 title "clang", "" every ::1::15 using 12 title "AVX2"
+plot "table.csv" every ::1::27 using 10:xtic(strcol(1)." ".strcol(2)) title "gcc", "" every ::1::15 using 11 title "clang", "" every ::1::15 using 12 title "AVX2"

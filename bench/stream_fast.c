@@ -9,7 +9,7 @@
 #include <string.h>
 #include <unistd.h>
 
-enum { BLOCK = 1 << 16, LONGEST_BOOK = 2118, MOST_WORDS = 1000000, LONGEST_LINE = 9 + 2 * 63 };
+enum { BLOCK = 1 << 16, LONGEST_BOOK = 8454, MOST_WORDS = 1000000, LONGEST_WORD = 255, LONGEST_LINE = 10 + 2 * LONGEST_WORD };
 
 static uint8_t in[BLOCK];
 static size_t in_at, in_end;
@@ -50,8 +50,10 @@ static void flush(void)
 
 static void number(unsigned x)
 {
+    if (x >= 100)
+        out[out_end++] = (char)('0' + x / 100);
     if (x >= 10)
-        out[out_end++] = (char)('0' + x / 10);
+        out[out_end++] = (char)('0' + x / 10 % 10);
     out[out_end++] = (char)('0' + x % 10);
 }
 
@@ -96,7 +98,7 @@ static size_t take_book(uint8_t *book)
 
 int main(void)
 {
-    static uint8_t book[LONGEST_BOOK], word[64], answer[64];
+    static uint8_t book[LONGEST_BOOK], word[LONGEST_WORD], answer[LONGEST_WORD];
     void *room = malloc(FAST(room)());
     size_t length = take_book(book), n, got;
     uint32_t opened = length ? FAST(open)(room, book, length) : 1;
