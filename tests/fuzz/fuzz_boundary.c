@@ -41,6 +41,9 @@ static const struct form {
 
 enum { IN_SHORT, IN_LONG, FORMS };
 
+/* A round adds so many places at a step, and the last ones singly. */
+enum { EIGHT = 8, PACKED = 0, SINGLE, SUMS };
+
 /* A decode that takes more products of symbols than this is left out: the second implementation is slow. */
 enum { MOST_PRODUCTS = 400000 };
 
@@ -664,6 +667,17 @@ static uint32_t faulty_copies(const char *fault, uint32_t result)
     return result;
 }
 
+/* The faults that a round's sum could have, made of a right word: single places, or the eighth of each eight, left as they were received. */
+__attribute__((no_sanitize("address"))) static void faulty_sum(const char *fault)
+{
+    volatile uint8_t *output = output_area.buffer;
+    const size_t packed = output_area.len / EIGHT * EIGHT;
+    size_t place;
+    for (place = 0; place < output_area.len; place++)
+        if ((strcmp(fault, "singles") == 0 && place >= packed) || (strcmp(fault, "eighth") == 0 && place < packed && place % EIGHT == EIGHT - 1))
+            output[place] = input_area.buffer[place];
+}
+
 /* The faults that a library could have. They are done as the archive would do them, unseen by the sanitizer. */
 __attribute__((no_sanitize("address"))) static uint32_t faulty(int which, uint32_t result)
 {
@@ -688,6 +702,8 @@ __attribute__((no_sanitize("address"))) static uint32_t faulty(int which, uint32
         return result - 0x10000;
     if (strcmp(fault, "changed") == 0 && kind == SHIFTSUM_MENDED)
         return result + 0x100;
+    if (kind == SHIFTSUM_MENDED)
+        faulty_sum(fault);
     if (strcmp(fault, "answer") == 0 && kind == SHIFTSUM_STALLED)
         output[output_area.len - 1] ^= 1;
     /* A fault that few words show. */
@@ -713,10 +729,11 @@ __attribute__((no_sanitize("address"))) static uint32_t faulty(int which, uint32
 enum { LENGTH_0, K_IS_1, ONE_SYMBOL, SHORT, FULL, K_AND_1, ABOVE, LENGTHS };
 
 /* By the form that byte 3 chooses: how many calls of each function had each result, for decode the kinds; those of decode that took two rounds or
- * more; those of check with result 8 by the copy that the codebook had; and those of code with an accepted codebook by the length of the message. */
+ * more; those of check with result 8 by the copy that the codebook had; and those of code with an accepted codebook by the length of the message;
+ * mended words by whether a packed place was changed, and a single one. */
 static struct counts {
     unsigned long calls[FUNCTIONS], accepted[FUNCTIONS], refused[FUNCTIONS][256], kinds[128], later[128], copies[UNLIKE + 1];
-    unsigned long lengths[LENGTHS][256], every_length;
+    unsigned long lengths[LENGTHS][256], every_length, sums[SUMS];
 } counts[FORMS];
 static unsigned long left_out;
 
@@ -784,6 +801,14 @@ static void count(int which, uint32_t result, const struct bytes *book)
     seen[16 * FUNCTIONS + mark % (SEEN - 16 * FUNCTIONS)] = 1;
 }
 
+/* Whether the sums of a mended word changed packed places, and single ones. */
+static void count_sums(struct counts *own)
+{
+    const size_t n = output_area.len, packed = n / EIGHT * EIGHT;
+    own->sums[PACKED] += memcmp(output_area.buffer, input_area.buffer, packed) != 0;
+    own->sums[SINGLE] += memcmp(output_area.buffer + packed, input_area.buffer + packed, n - packed) != 0;
+}
+
 /* Where library and second implementation differ, all that is needed to see why. */
 static void differs(int which, const char *what, uint32_t result, uint32_t expected, const struct bytes *book, const struct bytes *input,
                     const struct bytes *held)
@@ -823,6 +848,8 @@ static uint32_t compare(int which, const struct bytes *book, const struct bytes 
     if (memcmp(book_area.pages, book_area.image, ROOM) != 0 || memcmp(input_area.pages, input_area.image, ROOM) != 0)
         differs(which, "the codebook or the input after the call", result, expected, book, input, held);
     count(which, result, book);
+    if (which == DECODE && SHIFTSUM_REFUSAL(result) == 0 && SHIFTSUM_KIND(result) == SHIFTSUM_MENDED)
+        count_sums(&counts[which_form(book)]);
     return result;
 }
 
@@ -987,6 +1014,7 @@ static void print_form(const char *form, const struct counts *own)
     printf("%5s%-9s %9lu %9s %7s", form, "later", later['M'] + later['S'] + later['X'], "-", "-");
     printf(" %7lu %7lu %7lu\n", later['M'], later['S'], later['X']);
     printf("%scopies equal %lu turned %lu turned-and-scaled %lu\n", form, copies[EQUAL], copies[TURNED], copies[TURNED_AND_SCALED]);
+    printf("%ssums packed %lu single %lu\n", form, own->sums[PACKED], own->sums[SINGLE]);
     print_lengths(form, own);
 }
 

@@ -8,21 +8,19 @@ use native.Mathlib.Nat.{add-zero, add-assoc, mod-eq-of-lt, mod-add-mod, mul-le-m
 use native.Mathlib.Omega.{arith}
 use lib.Bits.{bitAnd, and-le-r, and-mask, and-zero-r, xor-lt}
 use lib.Dec.{eqb}
-use lib.ListN.{List·getD-eq-default}
 use mir.Syntax.{w8, w16}
 use mir.Val.{boolByte, Fits}
 use Rattle.spec_range.specs.Fold.{total}
 use Rattle.spec_range.specs.Table.{table, padded}
 use Rattle.spec_range.proofs.Tests.{same-eqb}
 use Rattle.spec_range.proofs.Fold.{fold-cong, fold-short, fold-parts, fold-rotate, sums}
-use Rattle.spec_range.proofs.Table.{table-length}
-use Rattle.spec_range.proofs.Loop.{fold-none, fold-more, padded-reads}
+use Rattle.spec_range.proofs.Loop.{fold-none, fold-more}
 use Rattle.spec_field.specs.Field.{FieldOps, FieldLaws}
 use Rattle.spec_field.proofs.Laws.{mul-cancel}
 use Rattle.spec_word.proofs.Place.{Word}
 use Rattle.spec_word.proofs.Alike.{MultipleOfTurn}
 use Rattle.word_array.specs.Stored.{place}
-use Rattle.word_array.proofs.Filled.{read-padded}
+use Rattle.word_array.proofs.Filled.{read-padded, padded-past}
 use Rattle.word_table.proofs.Window.{read-table}
 use Rattle.book_alike.specs.Signature.{markOf, markAt, signatureOf}
 
@@ -60,10 +58,6 @@ pub signature-same : (n : ℕ) (w v : ℕ → ℕ) → ((j : ℕ) → j < n + n 
 unfolding signatureOf
 signature-same n w v h =
     ap (λ (x : ℕ). x % 65536) (fold-cong _+_ 0 n (λ j l. ap square (mark-same n w v j j (λ a b. ap₂ eqb (h j (omega arith)) (h (j + a) (omega arith))))))
-
--- the places of an array from the end of what it holds on
-padded-past : (size n : ℕ) (f : ℕ → ℕ) → n ≤ size → (k : ℕ) → n ≤ k → place (padded size n f) k ≡ 0
-padded-past size n f h k l = padded-reads size n f h k ∙ List·getD-eq-default (table n f) 0 (omega (arith, table-length n f))
 
 -- the squares of b blocks of marks, zero where `inside` is, are added up
 abbrev pub SignedTo : ℕ → (ℕ → ℕ) → List ℕ → ℕ → ℕ → Type 0

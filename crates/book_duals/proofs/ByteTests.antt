@@ -2,33 +2,15 @@
 -- Assumes nothing.
 use mathlib.Core.Path.{_≡_}
 use mathlib.Core.Bool.{Bool, true, cond}
-use Prim.Native.Nat.{ℕ, _*_, _/_, _^_, _≤_, _<_, suc-le-suc}
+use Prim.Native.Nat.{ℕ, _/_, _≤_, _<_, suc-le-suc}
 use borrow.Author.Tests.{eq-eqb, le-ltb}
 use lib.Dec.{T, eqb, ltb, eqb→eq}
 use Rattle.spec_range.specs.Fold.{fold, all}
 use Rattle.spec_range.proofs.Tests.{eq→eqb, test-true}
 use Rattle.spec_range.proofs.Table.{all-at, all-of}
 use Rattle.spec_field.specs.Symbols.{polynomial, timesX}
-use Rattle.book_duals.specs.Lanes.{lane, lowDigits, otherDigits, doubleAll}
-
--- ---- a symbol shifted up to symbol m
-
-shiftTest : ℕ → ℕ → ℕ → ℕ → Bool
-shiftTest p m i b = eqb (lane p i (b * 2 ^ (p * m))) (cond (eqb i m) b 0)
-
-everyShift : T (all 4 (λ p. all 9 (λ m. all 9 (λ i. all (2 ^ p) (shiftTest p m i)))))
-unfolding fold shiftTest lane
-everyShift = tt
-
--- it is symbol m, and the others are zero
-pub lane-shifted : (p m i b : ℕ) → p ≤ 3 → m < 9 → i < 9 → b < 2 ^ p → lane p i (b * 2 ^ (p * m)) ≡ cond (eqb i m) b 0
-unfolding shiftTest
-lane-shifted p m i b hp hm hi hb =
-    eqb→eq _ _
-    (all-at (2 ^ p) (shiftTest p m i)
-    (all-at 9 (λ i. all (2 ^ p) (shiftTest p m i))
-    (all-at 9 (λ m. all 9 (λ i. all (2 ^ p) (shiftTest p m i)))
-    (all-at 4 (λ p. all 9 (λ m. all 9 (λ i. all (2 ^ p) (shiftTest p m i)))) everyShift p (suc-le-suc hp)) m hm) i hi) b hb)
+use Rattle.spec_word.specs.Lanes.{lane}
+use Rattle.book_duals.specs.Lanes.{lowDigits, otherDigits, doubleAll}
 
 -- ---- x times all symbols of a byte that has no digits but theirs
 

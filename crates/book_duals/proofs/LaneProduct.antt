@@ -22,6 +22,8 @@ use Rattle.spec_word.proofs.Product.{product-cong}
 use Rattle.spec_word.proofs.Sums.{field-sums, additive-sum}
 use Rattle.sizes.specs.Blocks.{span}
 use Rattle.sizes.proofs.Lengths.{blocks-fit}
+use Rattle.spec_word.specs.Lanes.{lane}
+use Rattle.spec_word.proofs.Lanes.{lane-zero, lane-xor}
 use Rattle.word_array.specs.Stored.{place}
 use Rattle.word_table.specs.Multiples.{wordOf, Tabled}
 use Rattle.word_table.specs.Window.{Window}
@@ -31,8 +33,8 @@ use Rattle.word_table.proofs.Rows.{rows-apart}
 use Rattle.word_table.proofs.Sums.{turned-product}
 use Rattle.spec_book.specs.Layout.{width, dualAt, byte, bodyPlace}
 use Rattle.book_duals.specs.Duals.{generatorWord, dualWord, dualProduct, Zeros, Tested}
-use Rattle.book_duals.specs.Lanes.{lane, lanes, packedAt}
-use Rattle.book_duals.proofs.Lanes.{lane-zero, lane-xor, lanes-at}
+use Rattle.book_duals.specs.Lanes.{lanes, packedAt}
+use Rattle.book_duals.proofs.Lanes.{lanes-at}
 use Rattle.book_duals.proofs.ByteTests.{byte-zero}
 use Rattle.book_duals.proofs.Packing.{packed-small, packed-symbol}
 
@@ -89,12 +91,12 @@ module _ {bytes : List ℕ} {p n duals : ℕ} (s : Tested bytes p n duals) (p-hi
 
     -- they have no digits but those of 8 / p symbols
     pub packed-digits : (j : ℕ) → j + 1 < span n → place w (1 + j) < 2 ^ (8 / p * p)
-    packed-digits j d = subst (λ (x : ℕ). x < 2 ^ (8 / p * p)) (sym (packed-place j d)) (packed-small bytes l k (1 + j) p-high few (symbol j d))
+    packed-digits j d = subst (λ (x : ℕ). x < 2 ^ (8 / p * p)) (sym (packed-place j d)) (packed-small p bytes l k (1 + j) few (symbol j d))
 
     packed-symbols : (i j : ℕ) → i < 9 → j + 1 < span n → lane p i (place w (1 + j)) ≡ cond (ltb i k) (bodyPlace bytes (dualAt (width bytes) (l + i)) j) 0
     packed-symbols i j b d =
         let here : dualAt (width bytes) (l + i) + (1 + j) ≡ dualAt (width bytes) (l + i) + 1 + j = omega arith in
-        ap (lane p i) (packed-place j d) ∙ packed-symbol bytes l k (1 + j) p-high few (symbol j d) i b
+        ap (lane p i) (packed-place j d) ∙ packed-symbol p bytes l k (1 + j) few (symbol j d) i
         ∙ ap (λ (m : ℕ). cond (ltb i k) (byte bytes m) 0) here
 
     -- ---- its product with the generator

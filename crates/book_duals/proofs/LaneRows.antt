@@ -11,11 +11,13 @@ use lib.ListN.{length}
 use lib.Pow.{pow-pos, pow-mono}
 use Rattle.spec_field.specs.Symbols.{product}
 use Rattle.spec_field.proofs.Gf.{gf-laws}
+use Rattle.spec_word.specs.Lanes.{lane}
+use Rattle.spec_word.proofs.Lanes.{lane-zero, lane-xor, lane-lt}
 use Rattle.word_array.specs.Stored.{place, Sizes}
 use Rattle.word_table.specs.Multiples.{entry, Begun, RowPut, Tabled}
 use Rattle.word_table.proofs.Rows.{Reading, ReadAs, Rows, rows-apart, rows-first, rows-double, rows-end}
-use Rattle.book_duals.specs.Lanes.{lane, lanes, doubleAll}
-use Rattle.book_duals.proofs.Lanes.{lane-zero, lane-xor, lane-lt, lanes-length, lanes-at}
+use Rattle.book_duals.specs.Lanes.{lanes, doubleAll}
+use Rattle.book_duals.proofs.Lanes.{lanes-length, lanes-at}
 use Rattle.book_duals.proofs.ByteTests.{lane-double}
 
 -- the rows below c are the multiples of d, symbol by symbol

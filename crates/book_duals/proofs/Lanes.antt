@@ -1,40 +1,26 @@
--- The symbols of a byte: of sums, and of lists of bytes.
+-- The symbols of a byte: of lists of bytes, and times x.
 -- Assumes nothing.
 use mathlib.Core.Path.{_≡_, sym, ap, _∙_}
 use mathlib.Core.Bool.{Bool, true, false, cond}
 use mathlib.Core.List.{List}
-use Prim.Native.Nat.{ℕ, _+_, _-_, _*_, _/_, _%_, _^_, _≤_, _<_}
-use native.Mathlib.Nat.{zero-mod, zero-div, mod-lt, mul-le-mul-left}
+use Prim.Native.Nat.{ℕ, _+_, _-_, _*_, _/_, _^_, _≤_, _<_}
+use native.Mathlib.Nat.{mul-le-mul-left}
 use native.Mathlib.Decide.{decLt}
 use native.Mathlib.Omega.{arith}
-use lib.Bits.{bitXor, bitAnd, and-le-r, xor-shr, xor-mod}
+use lib.Bits.{bitXor, bitAnd, and-le-r}
 use lib.Dec.{eqb}
 use lib.ListN.{length, List·getD-eq-default}
-use lib.Pow.{pow-pos}
 use mir.Syntax.{w8}
 use mir.Val.{Fits}
 use Rattle.spec_range.proofs.Table.{table-at, table-length}
+use Rattle.spec_word.specs.Lanes.{lane}
+use Rattle.spec_word.proofs.Lanes.{lane-zero}
 use Rattle.word_array.specs.Stored.{place}
-use Rattle.book_duals.specs.Lanes.{lane, lanes, lowDigits, otherDigits, doubleAll}
+use Rattle.book_duals.specs.Lanes.{lanes, lowDigits, otherDigits, doubleAll}
+
+-- ---- lists
 
 module _ (p i : ℕ) where
-  -- of zero
-  pub lane-zero : lane p i 0 ≡ 0
-  unfolding lane
-  lane-zero = ap (λ (x : ℕ). x % 2 ^ p) (zero-div (2 ^ (p * i))) ∙ zero-mod (2 ^ p)
-
-  -- of a sum
-  pub lane-xor : (x y : ℕ) → lane p i (bitXor x y) ≡ bitXor (lane p i x) (lane p i y)
-  unfolding lane
-  lane-xor x y = ap (λ (z : ℕ). z % 2 ^ p) (xor-shr x y (p * i)) ∙ xor-mod (x / 2 ^ (p * i)) (y / 2 ^ (p * i)) p
-
-  -- it is a symbol
-  pub lane-lt : (x : ℕ) → lane p i x < 2 ^ p
-  unfolding lane
-  lane-lt x = mod-lt (x / 2 ^ (p * i)) (pow-pos p)
-
-  -- ---- lists
-
   -- a list of symbols is as long as that of the bytes
   pub lanes-length : (t : List ℕ) → length (lanes p i t) ≡ length t
   unfolding lanes
@@ -49,7 +35,7 @@ module _ (p i : ℕ) where
       go (yes l) = table-at (length t) (λ k. lane p i (place t k)) l
       go (no l) =
           List·getD-eq-default (lanes p i t) 0 (omega (arith, table-length (length t) (λ k. lane p i (place t k))))
-          ∙ sym (ap (lane p i) (List·getD-eq-default t 0 (omega arith)) ∙ lane-zero)
+          ∙ sym (ap (lane p i) (List·getD-eq-default t 0 (omega arith)) ∙ lane-zero p i)
 
 -- ---- x times all symbols of a byte, as the code has it
 

@@ -1,27 +1,27 @@
 -- A byte of a packed word: symbol i is that of the dual word l + i, where i is below k.
 -- Assumes nothing.
-use mathlib.Core.Path.{_≡_, refl, sym, ap, ap₂, _∙_, subst}
+use mathlib.Core.Path.{_≡_, sym, ap, ap₂, _∙_, subst}
 use mathlib.Core.Bool.{Bool, cond}
 use mathlib.Core.List.{List}
 use Prim.Native.Nat.{ℕ, zero, suc, _+_, _*_, _/_, _%_, _^_, _≤_, _<_, zero-le}
-use native.Mathlib.Nat.{le-trans, le-refl, le-step, mul-suc, mul-comm, mul-le-mul-left, mul-div-le, div-le-self}
-use native.Mathlib.Decide.{decLt, ℕ-discrete}
+use native.Mathlib.Nat.{le-trans, le-refl, le-step, mul-suc, mul-comm, mul-le-mul-left, mul-div-le}
+use native.Mathlib.Decide.{decLt}
 use native.Mathlib.Omega.{arith}
-use borrow.Author.Tests.{lt-ltb, le-ltb, eq-eqb, ne-eqb}
-use lib.Bits.{bitXor, xor-zero-r, xor-lt}
-use lib.Dec.{eqb, ltb}
+use borrow.Author.Tests.{lt-ltb, le-ltb}
+use lib.Bits.{bitXor, xor-comm, xor-shifted}
+use lib.Dec.{ltb}
 use lib.ListN.{length, replicate, length-replicate}
-use lib.Pow.{pow-pos, pow-mono, shl-lt, shl-exact}
+use lib.Pow.{pow-mono, shl-exact}
 use lib.Seq.{ext-getD}
 use Rattle.spec_range.specs.Fold.{fold}
 use Rattle.spec_range.specs.Table.{table}
 use Rattle.spec_range.proofs.Table.{table-at, table-length}
 use Rattle.spec_range.proofs.Loop.{fold-none, fold-step, zero-at}
+use Rattle.spec_word.specs.Lanes.{lane, packed, Narrow}
+use Rattle.spec_word.proofs.Lanes.{lane-past, lane-packed, packed-none, packed-more, packed-lt}
 use Rattle.word_array.specs.Stored.{place}
 use Rattle.spec_book.specs.Layout.{width, dualAt, byte}
-use Rattle.book_duals.specs.Lanes.{lane, packedAt}
-use Rattle.book_duals.proofs.Lanes.{lane-zero, lane-xor}
-use Rattle.book_duals.proofs.ByteTests.{lane-shifted}
+use Rattle.book_duals.specs.Lanes.{packedAt}
 
 -- the digits of one symbol more than i of k
 pub words-fit : (p : ℕ) {k i : ℕ} → k ≤ 8 / p → i < k → p * i + p ≤ 8
@@ -29,7 +29,7 @@ words-fit p {k} {i} h l = le-trans (subst (λ (x : ℕ). x ≤ p * (8 / p)) (mul
 
 -- ---- the symbols of a sum of symbols, each shifted up to its own digits
 
-module _ {p : ℕ} (high : p ≤ 3) (f : ℕ → ℕ) where
+module _ (p : ℕ) (f : ℕ → ℕ) where
   abbrev sum : ℕ → ℕ
   sum k = fold bitXor 0 k (λ i. f i * 2 ^ (p * i) % 256)
 
@@ -37,42 +37,40 @@ module _ {p : ℕ} (high : p ≤ 3) (f : ℕ → ℕ) where
   term : {k : ℕ} → k < 8 / p → f k < 2 ^ p → f k * 2 ^ (p * k) % 256 ≡ f k * 2 ^ (p * k)
   term {k} l b = shl-exact p (p * k) 8 b (omega (arith, words-fit p (le-refl (8 / p)) l))
 
-  -- it has no digits but those of its symbols
-  sum-small : (k : ℕ) → k ≤ 8 / p → ((i : ℕ) → i < k → f i < 2 ^ p) → sum k < 2 ^ (p * k)
+  -- so the sum packs the symbols
+  sum-packed : (k : ℕ) → k ≤ 8 / p → Narrow p k f → sum k ≡ packed p k f
   unfolding fold
-  sum-small zero l b = pow-pos (p * 0)
-  sum-small (suc k) l b =
-      rw (term l (b k (le-refl (suc k))), mul-suc p k)
-      (xor-lt (p * k + p) _ _ (le-trans (sum-small k (omega arith) (λ i a. b i (le-step a))) (pow-mono (omega arith)))
-      (subst (λ (x : ℕ). f k * 2 ^ (p * k) < 2 ^ x) (omega arith) (shl-lt p (p * k) (b k (le-refl (suc k))))))
-
-  joined : (k i : ℕ) → Dec (i < k) → Dec (i ≡ k) → bitXor (cond (ltb i k) (f i) 0) (cond (eqb i k) (f k) 0) ≡ cond (ltb i (suc k)) (f i) 0
-  joined k i (yes a) _ = rw (lt-ltb i k a, ne-eqb i k (omega arith), lt-ltb i (suc k) (omega arith)) (xor-zero-r _)
-  joined k i (no a) (yes q) = rw (le-ltb i k (omega arith), eq-eqb i k q, lt-ltb i (suc k) (omega arith)) (ap f (sym q))
-  joined k i (no a) (no q) = rw (le-ltb i k (omega arith), ne-eqb i k q, le-ltb i (suc k) (omega arith)) refl
-
-  sum-lane : (k : ℕ) → k ≤ 8 / p → ((i : ℕ) → i < k → f i < 2 ^ p) → (i : ℕ) → i < 9 → lane p i (sum k) ≡ cond (ltb i k) (f i) 0
-  unfolding fold
-  sum-lane zero l b i c = lane-zero p i ∙ sym (ap (λ (t : Bool). cond t (f i) 0) (le-ltb i 0 zero-le))
-  sum-lane (suc k) l b i c =
-      ap (λ (x : ℕ). lane p i (bitXor (sum k) x)) (term l (b k (le-refl (suc k)))) ∙ lane-xor p i _ _
-      ∙ ap₂ bitXor (sum-lane k (omega arith) (λ i a. b i (le-step a)) i c)
-      (lane-shifted p k i (f k) high (omega (arith, div-le-self 8 p)) c (b k (le-refl (suc k))))
-      ∙ joined k i (decLt i k) (ℕ-discrete i k)
+  sum-packed zero l b = sym (packed-none p f)
+  sum-packed (suc k) l b =
+      let less : Narrow p k f = λ i a. b i (le-step a) in
+      ap₂ bitXor (sum-packed k (omega arith) less) (term l (b k (le-refl (suc k))))
+      ∙ xor-comm (packed p k f) (f k * 2 ^ (p * k)) ∙ xor-shifted (f k) (p * k) (packed p k f) (packed-lt p k f less) ∙ sym (packed-more p k f)
 
 -- ---- a place of packed dual words
 
-module _ {p : ℕ} (bytes : List ℕ) (l k m : ℕ) (high : p ≤ 3) (few : k ≤ 8 / p)
-    (symbol : (i : ℕ) → i < k → byte bytes (dualAt (width bytes) (l + i) + m) < 2 ^ p) where
-  pub packed-small : packedAt p bytes l k m < 2 ^ (8 / p * p)
-  unfolding packedAt
-  packed-small =
-      le-trans (sum-small high (λ i. byte bytes (dualAt (width bytes) (l + i) + m)) k few symbol)
-      (pow-mono (subst (λ (x : ℕ). p * k ≤ x) (mul-comm p (8 / p)) (mul-le-mul-left p few)))
+module _ (p : ℕ) (bytes : List ℕ) (l k m : ℕ) where
+  abbrev symbols : ℕ → ℕ
+  symbols i = byte bytes (dualAt (width bytes) (l + i) + m)
 
-  pub packed-symbol : (i : ℕ) → i < 9 → lane p i (packedAt p bytes l k m) ≡ cond (ltb i k) (byte bytes (dualAt (width bytes) (l + i) + m)) 0
-  unfolding packedAt
-  packed-symbol = sum-lane high (λ i. byte bytes (dualAt (width bytes) (l + i) + m)) k few symbol
+  module _ (few : k ≤ 8 / p) (symbol : Narrow p k symbols) where
+    places-packed : packedAt p bytes l k m ≡ packed p k symbols
+    unfolding packedAt
+    places-packed = sum-packed p symbols k few symbol
+
+    small : packed p k symbols < 2 ^ (p * k)
+    small = packed-lt p k symbols symbol
+
+    pub packed-small : packedAt p bytes l k m < 2 ^ (8 / p * p)
+    packed-small =
+        rw places-packed (le-trans small (pow-mono (subst (λ (x : ℕ). p * k ≤ x) (mul-comm p (8 / p)) (mul-le-mul-left p few))))
+
+    pub packed-symbol : (i : ℕ) → lane p i (packedAt p bytes l k m) ≡ cond (ltb i k) (symbols i) 0
+    packed-symbol i = ap (lane p i) places-packed ∙ go (decLt i k)
+      where
+        go : Dec (i < k) → lane p i (packed p k symbols) ≡ cond (ltb i k) (symbols i) 0
+        go (yes a) = lane-packed p k symbols symbol i a ∙ sym (ap (λ (t : Bool). cond t (symbols i) 0) (lt-ltb i k a))
+        go (no a) =
+            lane-past p i (le-trans small (pow-mono (mul-le-mul-left p (omega arith)))) ∙ sym (ap (λ (t : Bool). cond t (symbols i) 0) (le-ltb i k (omega arith)))
 
 -- ---- a block of them, as the loop has it after i of k dual words
 

@@ -1,4 +1,4 @@
--- Bytes that hold several symbols of p digits: symbol i of a byte, and lists of bytes as lists of their symbols i.
+-- Bytes that hold several symbols of p digits, a lane each: lists of bytes as lists of their symbols i.
 -- Assumes nothing.
 use mathlib.Core.Bool.{cond}
 use mathlib.Core.List.{List}
@@ -8,12 +8,9 @@ use lib.Dec.{eqb}
 use lib.ListN.{length}
 use Rattle.spec_range.specs.Fold.{fold}
 use Rattle.spec_range.specs.Table.{table}
+use Rattle.spec_word.specs.Lanes.{lane}
 use Rattle.word_array.specs.Stored.{place}
 use Rattle.spec_book.specs.Layout.{width, dualAt, byte}
-
--- symbol i of a byte: the p digits from p * i up
-unfoldable pub lane : ℕ → ℕ → ℕ → ℕ
-lane p i x = x / 2 ^ (p * i) % 2 ^ p
 
 -- the symbols i of a list of bytes
 unfoldable pub lanes : ℕ → ℕ → List ℕ → List ℕ

@@ -7,12 +7,13 @@ ghost use lib.ListN.{length};
 ghost use Rattle.spec_range.specs.Fold.{all};
 ghost use Rattle.spec_range.specs.Table.{table};
 ghost use Rattle.sizes.specs.Blocks.{span, stride};
+ghost use Rattle.spec_word.specs.Lanes.{lane};
 ghost use Rattle.word_array.specs.Stored.{place, Sizes};
 ghost use Rattle.word_table.specs.Window.{Window};
 ghost use Rattle.word_table.specs.Multiples.{entry, RowPut, Tabled};
 ghost use Rattle.spec_book.specs.Layout.{width, dualAt};
 ghost use Rattle.book_duals.specs.Duals.{dualProduct, productOk, Zeros, Tested};
-ghost use Rattle.book_duals.specs.Lanes.{lane, lanes, lowDigits, otherDigits, doubleAll, packedAt};
+ghost use Rattle.book_duals.specs.Lanes.{lanes, lowDigits, otherDigits, doubleAll, packedAt};
 use sizes::BLOCK;
 use sizes::SPAN;
 

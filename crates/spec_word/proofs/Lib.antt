@@ -6,3 +6,4 @@ pub mod Quotient
 pub mod Unique
 pub mod CyclicCode
 pub mod Alike
+pub mod Lanes

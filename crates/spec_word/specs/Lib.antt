@@ -2,3 +2,4 @@ pub mod Word
 pub mod Division
 pub mod CyclicCode
 pub mod Alike
+pub mod Lanes

@@ -1,6 +1,6 @@
 // Words of n symbols, held by value and zero from place n on. The contracts cite the definitions of specs/.
 ghost use mathlib.Core.Path.{_≡_};
-ghost use Prim.Native.Nat.{_+_, _≤_};
+ghost use Prim.Native.Nat.{_+_, _*_, _/_, _≤_};
 ghost use lib.Bits.{bitXor};
 ghost use lib.ListN.{length};
 ghost use Rattle.spec_range.specs.Table.{table, padded};
@@ -9,6 +9,7 @@ ghost use Rattle.spec_word.specs.Division.{allZero};
 ghost use Rattle.word_array.specs.Stored.{place};
 use sizes::WIDTH;
 use sizes::Word;
+use word_packed::EIGHT;
 
 // The n bytes of a slice that start at `start`, as a word.
 pub fn load(s: &[u8], start: usize, n: usize) -> Word
@@ -37,13 +38,38 @@ pub fn store(w: &[u8], out: &mut [u8])
     }
 }
 
-// The sum of two words.
+// The first eights of the sum of two words, each packed in one number, so that a step adds eight symbols.
+fn add_eights(eights: usize, a: &[u8], b: &[u8]) -> Word
+    requires { ⌜ (8 * eights ≤ 255) × (8 * eights ≤ length (now a)) × (8 * eights ≤ length (now b)) ⌝ }
+    ensures { λ r. ⌜ r ≡ padded 255 (8 * eights) (λ j. bitXor (place (now (a .entry)) j) (place (now (b .entry)) j)) ⌝ }
+{
+    let mut w = [0u8; WIDTH];
+    let mut i = 0;
+    while i < eights {
+        let at = EIGHT * i;
+        let end = at + EIGHT;
+        let x = word_packed::pack(&a[at..end]);
+        let y = word_packed::pack(&b[at..end]);
+        word_packed::unpack(x ^ y, &mut w[at..end]);
+        i += 1;
+    }
+    w
+}
+
+// How many of n places go in whole eights.
+fn packed_places(n: usize) -> usize
+    ensures { λ r. ⌜ r ≡ 8 * (n / 8) ⌝ }
+{
+    EIGHT * (n / EIGHT)
+}
+
+// The sum of two words: whole eights packed, and the last seven places or fewer singly.
 pub fn add(n: usize, a: &[u8], b: &[u8]) -> Word
     requires { ⌜ (n ≤ 255) × (n ≤ length (now a)) × (n ≤ length (now b)) ⌝ }
     ensures { λ r. ⌜ r ≡ padded 255 n (λ j. bitXor (place (now (a .entry)) j) (place (now (b .entry)) j)) ⌝ }
 {
-    let mut w = [0u8; WIDTH];
-    let mut j = 0;
+    let mut w = add_eights(n / EIGHT, a, b);
+    let mut j = packed_places(n);
     while j < n {
         w[j] = a[j] ^ b[j];
         j += 1;

@@ -4,9 +4,9 @@ use Prim.Native.Nat.{_-_, _≤_}
 use mathlib.Core.Path.{refl}
 use native.Mathlib.Omega.{arith}
 use lib.Bits.{bitXor}
-use Rattle.spec_range.proofs.Loop.{Held, held-none, held-more}
+use Rattle.spec_range.proofs.Loop.{Held, held-more}
 use Rattle.word_array.specs.Stored.{place}
-use Rattle.word_array.proofs.Filled.{held-end}
+use Rattle.word_array.proofs.Filled.{held-end, padded-held}
 use borrow.Author.Needs.{needs}
 use Rattle.word_array.proofs.add.Statement.{statement}
 use Rattle.word_array.proofs.add.Tie as tie
@@ -17,8 +17,18 @@ Inv-loop n a b w₀ j₀ w j = (j ≤ n) × Held 255 j (λ j. bitXor (place a j)
 abbrev μ-loop : tie.MeasureT-loop
 μ-loop n a b w₀ j₀ w j = n - j
 
+add-eights-requires : tie.Need-add-eights-requires Inv-loop μ-loop
+add-eights-requires c κs =
+    let pre = c .before .before .pre in
+    (omega (arith, pre .0), omega (arith, pre .1), omega (arith, pre .2))
+
+packed-places-requires : tie.Need-packed-places-requires Inv-loop μ-loop
+packed-places-requires c κs = search needs
+
 loop-holds : tie.Need-loop-holds Inv-loop μ-loop
-loop-holds c = (search needs, held-none 255 _)
+loop-holds c =
+    let e = c .packed-places .ensures in
+    (omega (arith, e), rw e (padded-held (omega (arith, c .before .before .before .before .pre .0)) (c .before .add-eights .ensures)))
 
 shared-slice-read-w : tie.Need-shared-slice-read-w Inv-loop μ-loop
 shared-slice-read-w c = search needs
@@ -36,7 +46,9 @@ loop-less : tie.Need-loop-less Inv-loop μ-loop
 loop-less c = search needs
 
 loop-again : tie.Need-loop-again Inv-loop μ-loop
-loop-again c = (search needs, held-more _ (omega (arith, c .before .before .before .before .pre .0)) refl (c .before .before .before .loop .inv .1))
+loop-again c =
+    let pre = c .before .before .before .before .before .before .before .before .pre in
+    (search needs, held-more _ (omega (arith, pre .0)) refl (c .before .before .before .loop .inv .1))
 
 returns : tie.Need-returns Inv-loop μ-loop
 returns c = held-end (omega arith) (c .before .loop .inv .1)
@@ -47,6 +59,8 @@ add-spec =
     (tie.spec
     Inv-loop
     μ-loop
+    add-eights-requires
+    packed-places-requires
     loop-holds
     shared-slice-read-w
     shared-slice-read-w-2
