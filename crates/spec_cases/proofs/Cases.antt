@@ -1,5 +1,5 @@
--- Cases 1 to 14, the remainders, the words that are alike, the short messages and the forms, each list proved together of the definitions, and that the books they
--- use are accepted.
+-- Cases 1 to 14, the remainders, the words that are alike, the short messages, the forms and the packed numbers, each list proved together of the
+-- definitions, and that the books they use are accepted.
 -- Assumes nothing.
 use mathlib.Core.Path.{refl}
 use Rattle.spec_range.specs.Fold.{fold}
@@ -9,6 +9,7 @@ use Rattle.spec_word.specs.Word as W
 use Rattle.spec_word.specs.Division.{before, allZero, reduce, remainder, quotient, divides}
 use Rattle.spec_word.specs.CyclicCode.{unity, isCode}
 use Rattle.spec_word.specs.Alike.{isMultipleOfTurn, alike}
+use Rattle.spec_word.specs.Lanes.{lane, packed}
 use Rattle.spec_book.specs.Layout.{width, degreeOf, bookOf}
 use Rattle.spec_book.specs.Conditions.{lengthFits, lengthOk, kindsOk, sizesOk, bodyOk, symbolsOk, generatorOk, limitsOk, dualOk, dualsOk, distinctOk, bookRefusal, refusal, messageFits, inputOk, inputRefusal}
 use Rattle.spec_coding.specs.Coder.{encode, message}
@@ -16,7 +17,7 @@ use Rattle.spec_decoding.specs.Matrix.{checkSum, checkValue, entryOf, matrixOf,
 use Rattle.spec_decoding.specs.Decode.{peak, zeroCount, peakCount, holders, inUpdateSet, correction, emptyUpdateSet, corrected, run, decodeWith}
 use Rattle.spec_decoding.specs.Symmetry.{move}
 use Rattle.spec_operations.specs.Coding.{codeInputRefusal, codeRefusal}
-use Rattle.spec_cases.specs.Cases.{checks, codes, reads, declines, fills, decodes, holds, leaves, compares, moved, cases, remainders, likenesses, shorts, forms, accepted, AllHold, none, _also_}
+use Rattle.spec_cases.specs.Cases.{checks, codes, reads, declines, fills, decodes, holds, leaves, compares, moved, packs, unpacks, cases, remainders, likenesses, shorts, forms, packings, accepted, AllHold, none, _also_}
 
 pub cases-hold : AllHold cases
 unfolding codes fills decodes holds moved fold table polynomial timesX shiftAdd product first inverse W.at W.distance W.turn W.product W.scale W.plus before allZero reduce remainder isCode width degreeOf bookOf encode checkSum checkValue entryOf matrixOf cell peak zeroCount peakCount holders inUpdateSet correction emptyUpdateSet corrected run decodeWith move
@@ -37,6 +38,10 @@ shorts-hold = refl also refl also refl also refl also refl also refl also refl a
 pub forms-hold : AllHold forms
 unfolding checks fold width lengthFits lengthOk kindsOk sizesOk refusal
 forms-hold = refl also refl also refl also refl also refl also refl also refl also refl also refl also refl also refl also refl also refl also refl also none
+
+pub packings-hold : AllHold packings
+unfolding packs unpacks fold table lane packed
+packings-hold = refl also refl also refl also refl also refl also none
 
 pub books-accepted : AllHold accepted
 unfolding checks fold table polynomial timesX shiftAdd product W.weight W.product before allZero reduce remainder divides unity width degreeOf bookOf lengthFits lengthOk kindsOk sizesOk bodyOk symbolsOk generatorOk limitsOk dualOk dualsOk distinctOk bookRefusal refusal

@@ -1,14 +1,17 @@
--- SCOPE 8: The worked cases 1 to 14, remainders, words that are alike and short messages: what the definitions give, and what SCOPE.md has.
+-- SCOPE 8: The worked cases 1 to 14, remainders, words that are alike, short messages, forms and packed numbers: what the definitions give, and what
+-- SCOPE.md has.
 -- Assumes nothing.
 use mathlib.Core.Path.{_≡_}
 use mathlib.Core.Bool.{Bool, true, false}
 use mathlib.Core.List.{List, [], _∷_, _++_}
 use Prim.Native.Nat.{ℕ}
-use lib.ListN.{length}
+use lib.Bits.{bitXor}
+use lib.ListN.{length, getD}
 use Rattle.spec_range.specs.Table.{table}
 use Rattle.spec_field.specs.Symbols.{product, gf}
 use Rattle.spec_word.specs.Word.{at}
 use Rattle.spec_word.specs.Alike.{alike}
+use Rattle.spec_word.specs.Lanes.{lane, packed}
 use Rattle.spec_book.specs.Book.{remainderBy}
 use Rattle.spec_book.specs.Layout.{fieldOf, bookOf, wordLength, dualsIn}
 use Rattle.spec_book.specs.Conditions.{sizesOk, refusal}
@@ -56,6 +59,14 @@ unfoldable pub declines : List ℕ → List ℕ → ℕ
 declines book f =
     let bytes = book in
     codeRefusal bytes f (wordLength bytes)
+
+-- SCOPE 2.11: the number that packs eight symbols
+unfoldable pub packs : List ℕ → ℕ
+packs symbols = packed 8 8 (λ k. getD symbols k 0)
+
+-- SCOPE 2.11: the eight symbols that a number packs
+unfoldable pub unpacks : ℕ → List ℕ
+unpacks x = table 8 (λ k. lane 8 k x)
 
 -- SCOPE 4.13: the entries that matrix writes
 unfoldable pub fills : List ℕ → List ℕ → Shown
@@ -211,6 +222,19 @@ forms =
     -- short: s 6 with p 6, and not s 7
     ∷ (sizesOk (1 ∷ 6 ∷ 6 ∷ 2 ∷ []) ≡ true)
     ∷ (sizesOk (1 ∷ 7 ∷ 1 ∷ 2 ∷ []) ≡ false)
+    ∷ []
+
+-- SCOPE 8.24: symbols packed in a number
+abbrev pub packings : List (Type 0)
+packings =
+    -- the lowest place in the lowest byte
+    (packs (1 ∷ 2 ∷ 3 ∷ 0 ∷ 0 ∷ 0 ∷ 0 ∷ 0 ∷ []) ≡ 197121)
+    ∷ (packs (0 ∷ 0 ∷ 0 ∷ 0 ∷ 0 ∷ 0 ∷ 0 ∷ 1 ∷ []) ≡ 72057594037927936)
+    -- read back
+    ∷ (unpacks 197121 ≡ 1 ∷ 2 ∷ 3 ∷ 0 ∷ 0 ∷ 0 ∷ 0 ∷ 0 ∷ [])
+    ∷ (unpacks 18446744073709551615 ≡ 255 ∷ 255 ∷ 255 ∷ 255 ∷ 255 ∷ 255 ∷ 255 ∷ 255 ∷ [])
+    -- added: 1, 2, 3 and 2, 2, 1, and 63 at place 7
+    ∷ (unpacks (bitXor (packs (1 ∷ 2 ∷ 3 ∷ [])) (packs (2 ∷ 2 ∷ 1 ∷ 0 ∷ 0 ∷ 0 ∷ 0 ∷ 63 ∷ []))) ≡ 3 ∷ 0 ∷ 2 ∷ 0 ∷ 0 ∷ 0 ∷ 0 ∷ 63 ∷ [])
     ∷ []
 
 -- every case of a list holds
