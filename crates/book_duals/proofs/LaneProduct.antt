@@ -93,8 +93,8 @@ module _ {bytes : List ℕ} {p n duals : ℕ} (s : Tested bytes p n duals) (p-hi
     pub packed-digits : (j : ℕ) → j + 1 < span n → place w (1 + j) < 2 ^ (8 / p * p)
     packed-digits j d = subst (λ (x : ℕ). x < 2 ^ (8 / p * p)) (sym (packed-place j d)) (packed-small p bytes l k (1 + j) few (symbol j d))
 
-    packed-symbols : (i j : ℕ) → i < 9 → j + 1 < span n → lane p i (place w (1 + j)) ≡ cond (ltb i k) (bodyPlace bytes (dualAt (width bytes) (l + i)) j) 0
-    packed-symbols i j b d =
+    packed-symbols : (i j : ℕ) → j + 1 < span n → lane p i (place w (1 + j)) ≡ cond (ltb i k) (bodyPlace bytes (dualAt (width bytes) (l + i)) j) 0
+    packed-symbols i j d =
         let here : dualAt (width bytes) (l + i) + (1 + j) ≡ dualAt (width bytes) (l + i) + 1 + j = omega arith in
         ap (lane p i) (packed-place j d) ∙ packed-symbol p bytes l k (1 + j) few (symbol j d) i
         ∙ ap (λ (m : ℕ). cond (ltb i k) (byte bytes m) 0) here
@@ -110,7 +110,7 @@ module _ {bytes : List ℕ} {p n duals : ℕ} (s : Tested bytes p n duals) (p-hi
       -- the packed words
       word-is : (i : ℕ) → i < 9 → (m : ℕ) → wordOf stride n (lanes p i t) m ≡ cond (ltb i k) (dualWord n bytes (l + i) m) 0
       unfolding dualWord
-      word-is i b m = tab i b .word m ∙ packed-symbols i (m % n) b (omega (arith, mod-lt m (s .sizes .n-low), fits))
+      word-is i b m = tab i b .word m ∙ packed-symbols i (m % n) (omega (arith, mod-lt m (s .sizes .n-low), fits))
 
       module _ (j : ℕ) (d : j < n) where
         place-is : place word j ≡ turnedSum stride n n (λ u. place bytes (4 + u)) t j

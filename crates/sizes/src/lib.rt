@@ -1,6 +1,6 @@
 // The sizes of words, tables, matrices and books, each named once.
 ghost use mathlib.Core.Path.{_≡_};
-ghost use Prim.Native.Nat.{min};
+ghost use Prim.Native.Nat.{_*_, _/_, _<_, min};
 ghost use lib.Dec.{ltb};
 ghost use Rattle.sizes.specs.Blocks.{blocks, shift};
 
@@ -15,6 +15,8 @@ pub const BLOCK: usize = 64;
 pub const SPAN: usize = 256;
 
 pub const STRIDE: usize = 512;
+// The symbols that one packed number holds.
+pub const EIGHT: usize = 8;
 // The most symbols of a field, and of one that is called small.
 pub const SYMBOLS: usize = 64;
 
@@ -63,6 +65,21 @@ pub fn shift(n: usize) -> u8
         return 8;
     }
     9
+}
+
+// How many of n places go in whole eights.
+pub fn packed_places(n: usize) -> usize
+    ensures { λ r. ⌜ r ≡ 8 * (n / 8) ⌝ }
+{
+    EIGHT * (n / EIGHT)
+}
+
+// How many digits of a packed number stand below the byte of place k: the lowest place has the lowest byte.
+pub fn digits_below(k: usize) -> usize
+    requires { ⌜ k < 8 ⌝ }
+    ensures { λ r. ⌜ r ≡ 8 * k ⌝ }
+{
+    8 * k
 }
 
 // A byte as an index.

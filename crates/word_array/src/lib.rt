@@ -1,15 +1,15 @@
 // Words of n symbols, held by value and zero from place n on. The contracts cite the definitions of specs/.
 ghost use mathlib.Core.Path.{_≡_};
-ghost use Prim.Native.Nat.{_+_, _*_, _/_, _≤_};
+ghost use Prim.Native.Nat.{_+_, _*_, _≤_};
 ghost use lib.Bits.{bitXor};
 ghost use lib.ListN.{length};
 ghost use Rattle.spec_range.specs.Table.{table, padded};
 ghost use Rattle.spec_word.specs.Word.{distance};
 ghost use Rattle.spec_word.specs.Division.{allZero};
 ghost use Rattle.word_array.specs.Stored.{place};
+use sizes::EIGHT;
 use sizes::WIDTH;
 use sizes::Word;
-use word_packed::EIGHT;
 
 // The n bytes of a slice that start at `start`, as a word.
 pub fn load(s: &[u8], start: usize, n: usize) -> Word
@@ -56,20 +56,13 @@ fn add_eights(eights: usize, a: &[u8], b: &[u8]) -> Word
     w
 }
 
-// How many of n places go in whole eights.
-fn packed_places(n: usize) -> usize
-    ensures { λ r. ⌜ r ≡ 8 * (n / 8) ⌝ }
-{
-    EIGHT * (n / EIGHT)
-}
-
 // The sum of two words: whole eights packed, and the last seven places or fewer singly.
 pub fn add(n: usize, a: &[u8], b: &[u8]) -> Word
     requires { ⌜ (n ≤ 255) × (n ≤ length (now a)) × (n ≤ length (now b)) ⌝ }
     ensures { λ r. ⌜ r ≡ padded 255 n (λ j. bitXor (place (now (a .entry)) j) (place (now (b .entry)) j)) ⌝ }
 {
     let mut w = add_eights(n / EIGHT, a, b);
-    let mut j = packed_places(n);
+    let mut j = sizes::packed_places(n);
     while j < n {
         w[j] = a[j] ^ b[j];
         j += 1;

@@ -1,26 +1,16 @@
 // Eight symbols in one number, so that one step works on all of them. The contracts cite the definitions of specs/.
 ghost use mathlib.Core.Path.{_≡_};
-ghost use Prim.Native.Nat.{_*_, _<_};
+ghost use Prim.Native.Nat.{_<_};
 ghost use lib.ListN.{length, getD};
 ghost use Rattle.spec_range.specs.Table.{table};
 ghost use Rattle.spec_word.specs.Lanes.{lane, packed, Narrow};
-
-// How many symbols a packed number holds.
-pub const EIGHT: usize = 8;
+use sizes::EIGHT;
 
 // A byte as a number of 64 digits.
 fn wide(x: u8) -> u64
     ensures { λ r. ⌜ (r ≡ x) × (r < 256) ⌝ }
 {
     x as u64
-}
-
-// How far up a number the byte of place k stands: the lowest place has the lowest byte.
-fn digits_below(k: usize) -> usize
-    requires { ⌜ k < 8 ⌝ }
-    ensures { λ r. ⌜ r ≡ 8 * k ⌝ }
-{
-    8 * k
 }
 
 // The number that holds eight symbols. That each is a byte, which a list of numbers does not show, is told on.
@@ -31,7 +21,7 @@ pub fn pack(e: &[u8]) -> u64
     let mut x: u64 = 0;
     let mut k: usize = 0;
     while k < EIGHT {
-        x = x | (wide(e[k]) << digits_below(k));
+        x = x | (wide(e[k]) << sizes::digits_below(k));
         k += 1;
     }
     x
@@ -44,7 +34,7 @@ pub fn unpack(x: u64, e: &mut [u8])
 {
     let mut k: usize = 0;
     while k < EIGHT {
-        e[k] = ((x >> digits_below(k)) & 255) as u8;
+        e[k] = ((x >> sizes::digits_below(k)) & 255) as u8;
         k += 1;
     }
 }

@@ -25,6 +25,22 @@ pub fn add(field: Field, a: &[u8], b: &[u8]) -> Vec<u8> {
     a.iter().zip(b).map(|(&a, &b)| field.sum(a, b)).collect()
 }
 
+/// "Eight symbols packed in one number, the lowest place in the lowest byte."
+pub fn pack(symbols: [u8; 8]) -> u64 {
+    let high_first = symbols.iter().rev();
+    high_first.fold(0, |number, &symbol| 256 * number + u64::from(symbol))
+}
+
+/// "A packed number gives back its eight symbols."
+pub fn unpack(number: u64) -> [u8; 8] {
+    let mut left = number;
+    [(); 8].map(|()| {
+        let symbol = (left % 256) as u8;
+        left /= 256;
+        symbol
+    })
+}
+
 /// Two words are "alike when one is a nonzero symbol times a turn of the
 /// other": every turn, which "moves place j to (j + t) mod n", and every
 /// nonzero symbol is tried. Such a product is zero where the turned word is,
