@@ -1,7 +1,7 @@
 /*
  * Measures the library against the transcription (literal.c) and the best C (fast.c, by two compilers, with and without AVX2): whole decodes, checks,
- * rounds, growth, remainders and coding. Every time is the least of many short runs, taken in turns, since the machine may be shared. First all must
- * agree on every word.
+ * rounds, growth, remainders, coding and bursts, these against single decodes in place of the transcription. Every time is the least of many short
+ * runs, taken in turns, since the machine may be shared. First all must agree on every word.
  *
  *   bench BOOKS OUT                       writes OUT/table.txt, OUT/table.md, OUT/table.csv, OUT/growth.csv
  *   bench words BOOKS BOOK CLASS COUNT    the book and words of a class (clean, one), as decode_stream reads them
@@ -20,13 +20,15 @@
     uint32_t name##_check(const uint8_t *, size_t); \
     uint32_t name##_code(const uint8_t *, size_t, const uint8_t *, size_t, uint8_t *, size_t); \
     uint32_t name##_remainder(const uint8_t *, size_t, const uint8_t *, size_t, uint8_t *, size_t); \
-    uint32_t name##_decode(const uint8_t *, size_t, const uint8_t *, size_t, uint8_t *, size_t);
+    uint32_t name##_decode(const uint8_t *, size_t, const uint8_t *, size_t, uint8_t *, size_t); \
+    uint32_t name##_burst(const uint8_t *, size_t, uint32_t, const uint8_t *, size_t, uint8_t *, size_t, struct shiftsum_record *, size_t);
 COMPILED(clang)
 COMPILED(gcc_avx2)
 COMPILED(clang_avx2)
 
 enum { OURS, LITERAL, GCC, CLANG, GCC_AVX2, CLANG_AVX2, WAYS, WORDS = 4, LEAST_TURNS = 60, CLEAN = 0, ONE_ROUND, MOST_ROUNDS, CLASSES };
-enum { LONGEST_BOOK = 8454, LONGEST_WORD = 255, SPARE = LONGEST_WORD + 1, SHORT = 63, LONG = 255 };
+enum { LONGEST_BOOK = 8454, LONGEST_WORD = 255, SHORT = 63, LONG = 255 };
+enum { BURST = 16, RECORD = sizeof(struct shiftsum_record), LONGEST_BURST = BURST * LONGEST_WORD, SPARE = LONGEST_BURST + RECORD * (BURST + 1) + 1 };
 
 typedef uint32_t Check(const uint8_t *, size_t);
 typedef uint32_t Call(const uint8_t *, size_t, const uint8_t *, size_t, uint8_t *, size_t);
@@ -42,6 +44,38 @@ static const Operation decoding = {"answers differ", {shiftsum_decode, literal_d
 static const Operation dividing = {"remainders differ", {shiftsum_remainder, literal_remainder, gcc_remainder, clang_remainder, gcc_avx2_remainder,
                                                          clang_avx2_remainder}};
 static const Operation coding = {"code words differ", {shiftsum_code, literal_code, gcc_code, clang_code, gcc_avx2_code, clang_avx2_code}};
+
+/* M and the count of records of the bursts that follow. A burst is called in the form of the others, its records behind its answers. */
+static uint32_t burst_words;
+static size_t burst_records;
+
+#define BURSTS(name) \
+    static uint32_t name##_mixed(const uint8_t *book, size_t len, const uint8_t *received, size_t in, uint8_t *output, size_t out) \
+    { \
+        const size_t answers = out - RECORD * burst_records; \
+        return name##_burst(book, len, burst_words, received, in, output, answers, (struct shiftsum_record *)(output + answers), burst_records); \
+    }
+BURSTS(shiftsum)
+BURSTS(gcc)
+BURSTS(clang)
+BURSTS(gcc_avx2)
+BURSTS(clang_avx2)
+
+/* A burst that is not refused by a call for each word. The words stand behind the burst, one after another, so that no time goes into unmixing. */
+static uint32_t singly(const uint8_t *book, size_t len, const uint8_t *received, size_t in, uint8_t *output, size_t out)
+{
+    const size_t n = in / burst_words;
+    struct shiftsum_record *records = (struct shiftsum_record *)(output + in);
+    (void)out;
+    for (size_t m = 0; m < burst_words; m++) {
+        uint32_t r = shiftsum_decode(book, len, received + in + m * n, n, output + m * n, n);
+        records[m] = (struct shiftsum_record){(uint8_t)SHIFTSUM_KIND(r), (uint8_t)SHIFTSUM_ROUNDS(r), (uint8_t)SHIFTSUM_CHANGED(r)};
+    }
+    return 0;
+}
+
+/* Bursts are held to the library's single decodes where other calls are held to the transcription. */
+static const Operation mixing = {"bursts differ", {shiftsum_mixed, singly, gcc_mixed, clang_mixed, gcc_avx2_mixed, clang_avx2_mixed}};
 static const char *const class_names[CLASSES] = {"clean", "one round", "most rounds"};
 
 /* Width is the length of a body, SHORT or LONG. */
@@ -52,9 +86,9 @@ typedef struct {
     unsigned q, duals, weight;
 } Book;
 
-/* Words of one class, all with the same number of rounds, or messages; what is made of them, and the sizes of input and output. */
+/* Words of one class, all with the same number of rounds, or messages, or bursts; what is made of them, and the sizes of input and output. */
 typedef struct {
-    uint8_t word[WORDS][LONGEST_WORD];
+    uint8_t word[WORDS][2 * LONGEST_BURST];
     int count, rounds;
     char kind;
     const Operation *operation;
@@ -182,7 +216,7 @@ static void find(const Book *b, int class, int trials, Class *c)
 /* One run of `times` calls; the words in turn. No word: the check. */
 static double run(const Book *b, const Class *c, int way, long times)
 {
-    uint8_t answer[LONGEST_WORD];
+    uint8_t answer[SPARE];
     double start = microseconds();
     for (long i = 0; i < times; i++)
         if (c)
@@ -222,11 +256,12 @@ static void measure(const Book *b, const Class *c, double budget, double *least)
 
 static FILE *text, *markdown, *csv, *growth;
 
-static void heading(const char *title, const char *first, const char *second)
+/* Held: what the library is held to, the transcription or single decodes; it has the second place among the ways. */
+static void heading(const char *title, const char *first, const char *second, const char *held)
 {
-    fprintf(text, "\n%s\n%-12s %-18s %10s %9s %9s %9s %9s\n", title, first, second, "ours, us", "/literal", "/gcc", "/clang", "/AVX2");
-    fprintf(markdown, "\n%s\n\n| %s | %s | ours, us | ours / literal | ours / best C, gcc | ours / best C, clang | ours / best C, AVX2 |\n"
-            "|---|---|---:|---:|---:|---:|---:|\n", title, first, second);
+    fprintf(text, "\n%s\n%-12s %-18s %10s  /%-7s %9s %9s %9s\n", title, first, second, "ours, us", held, "/gcc", "/clang", "/AVX2");
+    fprintf(markdown, "\n%s\n\n| %s | %s | ours, us | ours / %s | ours / best C, gcc | ours / best C, clang | ours / best C, AVX2 |\n"
+            "|---|---|---:|---:|---:|---:|---:|\n", title, first, second, held);
 }
 
 static void row(const char *first, const char *second, const double *t)
@@ -387,19 +422,19 @@ static void whole_decodes(const char *folder)
     double checked[BOOKS][WAYS], rounds[BOOKS][WAYS];
     char label[32];
     int per[BOOKS];
-    heading("Whole decodes over the C boundary, the book checked in each call", "book", "words");
+    heading("Whole decodes over the C boundary, the book checked in each call", "book", "words", "literal");
     for (int i = 0; i < BOOKS; i++) {
         Book b;
         uint64_t kept = begin(&b, folder, books[i]);
         per[i] = decode_rows(&b, checked[i], rounds[i]);
         end(&b, kept);
     }
-    heading("One round: the difference of the words of most rounds and the clean ones, a round", "book", "rounds");
+    heading("One round: the difference of the words of most rounds and the clean ones, a round", "book", "rounds", "literal");
     for (int i = 0; i < BOOKS; i++) {
         snprintf(label, sizeof label, "%d", per[i]);
         row(books[i], label, rounds[i]);
     }
-    heading("The check of a book", "book", "");
+    heading("The check of a book", "book", "", "literal");
     for (int i = 0; i < BOOKS; i++)
         row(books[i], "check", checked[i]);
     dear_checks(folder);
@@ -421,7 +456,7 @@ static void remainders_agree(const Book *b)
 static void whole_remainders(const char *folder)
 {
     double t[WAYS];
-    heading("The remainder of a word over the C boundary, the book checked in each call", "book", "");
+    heading("The remainder of a word over the C boundary, the book checked in each call", "book", "", "literal");
     for (int i = 0; i < BOOKS; i++) {
         Book b;
         Class c;
@@ -463,12 +498,12 @@ static void draw_messages(const Book *b, size_t length, Class *c)
         agreed(&coding, b, c->word[i], length, b->n, i == 0);
 }
 
-/* Full messages, half ones and single symbols. Last of all, so that no other row has other words for it. */
+/* Full messages, half ones and single symbols. After the others, so that no other row has other words for it. */
 static void whole_codes(const char *folder)
 {
     double t[WAYS];
     char label[32];
-    heading("Coding a message over the C boundary, the book checked in each call", "book", "symbols of k");
+    heading("Coding a message over the C boundary, the book checked in each call", "book", "symbols of k", "literal");
     for (int i = 0; i < BOOKS; i++) {
         Book b;
         Class c;
@@ -480,6 +515,87 @@ static void whole_codes(const char *folder)
             measure(&b, &c, 4e5, t);
             snprintf(label, sizeof label, "%zu of %zu", lengths[j], b.k);
             row(books[i], label, t);
+        }
+        end(&b, kept);
+    }
+}
+
+/* Puts a word into a burst, and behind the burst. */
+static void put_word(const Book *b, size_t words, size_t m, const uint8_t *word, uint8_t *burst)
+{
+    for (size_t j = 0; j < b->n; j++)
+        burst[j * words + m] = word[j];
+    memcpy(burst + (words + m) * b->n, word, b->n);
+}
+
+/* A burst that is refused by the number; it has no words singly. */
+static void refused(const Book *b, uint32_t words, const uint8_t *burst, size_t in, size_t answers, size_t records, uint32_t number)
+{
+    burst_words = words;
+    burst_records = records;
+    if (agreed(&mixing, b, burst, in, answers + RECORD * records, 0) != number)
+        fail("a burst is refused by another number", b->name);
+}
+
+/* Bursts of every M, with words of up to seven errors, and the same refused by a size, a symbol or M. */
+static void bursts_agree(const Book *b)
+{
+    static const uint32_t wrong[] = {0, BURST + 1, 256 + BURST, UINT32_MAX};
+    uint8_t word[LONGEST_WORD], burst[2 * LONGEST_BURST];
+    for (uint32_t i = 0; i < 4 * BURST; i++) {
+        const uint32_t words = 1 + i % BURST;
+        const size_t in = words * b->n;
+        for (size_t m = 0; m < words; m++) {
+            make_word(b, (int)(random64() % 8), word);
+            put_word(b, words, m, word, burst);
+        }
+        burst_words = words;
+        burst_records = words;
+        agreed(&mixing, b, burst, in, in + RECORD * words, 1);
+        refused(b, words, burst, in - 1, in, words, 9);
+        refused(b, words, burst, in, in - 1, words, 10);
+        refused(b, words, burst, in, in, words + 1, 10);
+        burst[random64() % in] |= (uint8_t)b->q;
+        refused(b, words, burst, in, in, words, 11);
+        refused(b, wrong[i % 4], burst, in, in, words, 14);
+    }
+}
+
+/* A burst of words of a class. */
+static void draw_burst(const Book *b, int class, size_t words, Class *c)
+{
+    Class few;
+    for (size_t m = 0; m < words; m++) {
+        if (m % WORDS == 0)
+            find(b, class, 4000, &few);
+        put_word(b, words, m, few.word[m % (size_t)few.count], c->word[0]);
+    }
+    c->operation = &mixing;
+    c->count = 1;
+    c->in = words * b->n;
+    c->out = words * (b->n + RECORD);
+    burst_words = (uint32_t)words;
+    burst_records = words;
+    agreed(&mixing, b, c->word[0], c->in, c->out, 1);
+}
+
+/* Bursts of the most words, and of one. Last of all, so that no other row has other words for it. */
+static void whole_bursts(const char *folder)
+{
+    static const size_t counts[2] = {BURST, 1};
+    static const char *const labels[2][2] = {{"16 clean", "16 mended"}, {"1 clean", "1 mended"}};
+    double t[WAYS];
+    heading("Bursts over the C boundary, the book checked once; singly: the library's decodes of the same words, the book checked in each", "book",
+            "words", "singly");
+    for (int i = 0; i < BOOKS; i++) {
+        Book b;
+        Class c;
+        uint64_t kept = begin(&b, folder, books[i]);
+        bursts_agree(&b);
+        for (int j = 0; j < 4; j++) {
+            draw_burst(&b, j % 2 ? ONE_ROUND : CLEAN, counts[j / 2], &c);
+            measure(&b, &c, 4e5, t);
+            row(books[i], labels[j / 2][j % 2], t);
         }
         end(&b, kept);
     }
@@ -635,5 +751,6 @@ int main(int count, char **given)
     growths(given[1]);
     whole_remainders(given[1]);
     whole_codes(given[1]);
+    whole_bursts(given[1]);
     return 0;
 }

@@ -1575,6 +1575,44 @@ uint32_t SIZED(decode)(const uint8_t *book, size_t book_len, const uint8_t *rece
     return decode_word(&f, received, &ready, answer);
 }
 
+/* Whether any of so many bytes is no symbol. */
+static int has_large(const Fast *f, const uint8_t *given, size_t length)
+{
+    uint8_t bits = 0;
+    for (size_t i = 0; i < length; i++)
+        bits |= given[i];
+    return (bits & ~(f->q - 1)) != 0;
+}
+
+/* The book is checked once, and its terms are listed once, by the first word that needs them. */
+uint32_t SIZED(burst)(const uint8_t *book, size_t book_len, uint32_t words, const uint8_t *received, size_t received_len, uint8_t *answers,
+                      size_t answers_len, struct shiftsum_record *records, size_t records_len)
+{
+    Fast f;
+    uint8_t apart[SHIFTSUM_BURST_MAX][ROOM];
+    int ready = 0;
+    unsigned number = refusal(&f, book, book_len);
+    if (number)
+        return number;
+    size_t n = (size_t)f.n;
+    if (words < 1 || words > SHIFTSUM_BURST_MAX)
+        return 14;
+    if (received_len != n * words)
+        return 9;
+    if (answers_len != n * words || records_len != words)
+        return 10;
+    if (has_large(&f, received, received_len))
+        return 11;
+    for (size_t j = 0; j < n; j++)
+        for (size_t m = 0; m < words; m++)
+            apart[m][j] = *received++;
+    for (size_t m = 0; m < words; m++) {
+        uint32_t r = decode_word(&f, apart[m], &ready, answers + m * n);
+        records[m] = (struct shiftsum_record){(uint8_t)SHIFTSUM_KIND(r), (uint8_t)SHIFTSUM_ROUNDS(r), (uint8_t)SHIFTSUM_CHANGED(r)};
+    }
+    return 0;
+}
+
 typedef struct {
     Fast f;
     int ready;

@@ -4,6 +4,8 @@
 #ifndef FAST_H
 #define FAST_H
 
+#include "shiftsum.h" /* the record of a word in a burst */
+
 #include <stddef.h>
 #include <stdint.h>
 
@@ -19,6 +21,8 @@ uint32_t FAST(check)(const uint8_t *book, size_t book_len);
 uint32_t FAST(code)(const uint8_t *book, size_t book_len, const uint8_t *message, size_t message_len, uint8_t *word, size_t word_len);
 uint32_t FAST(remainder)(const uint8_t *book, size_t book_len, const uint8_t *word, size_t word_len, uint8_t *remainder, size_t remainder_len);
 uint32_t FAST(decode)(const uint8_t *book, size_t book_len, const uint8_t *received, size_t received_len, uint8_t *answer, size_t answer_len);
+uint32_t FAST(burst)(const uint8_t *book, size_t book_len, uint32_t words, const uint8_t *received, size_t received_len, uint8_t *answers,
+                     size_t answers_len, struct shiftsum_record *records, size_t records_len);
 
 /* A book checked once, for many words: room for the struct of fast.c. */
 size_t FAST(room)(void);

@@ -40,11 +40,12 @@ const char *refusal_sentence(unsigned number)
         "the codebook's I is not 1 to 63, or its D not 1 to n",
         "a dual word has not symbol 1 at place 0, its product with the generator is not zero, or its weight differs from the others'",
         "two dual words of the codebook are alike: one is a nonzero symbol times a turn of the other",
-        "the input is not 1 to k symbols for coding, or not n symbols for reading, dividing and decoding",
+        "the input is not 1 to k symbols for coding, n symbols for reading, dividing and decoding, or n times M for a burst of M words",
         "the output's size is not exact",
         "the input has a symbol of q or more",
         "the word to be read is not a code word",
         "zero has no inverse",
+        "a burst is of no word, or of more than 16",
     };
     return number < sizeof sentences / sizeof sentences[0] ? sentences[number] : "a number that this program does not know";
 }

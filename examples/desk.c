@@ -1,10 +1,13 @@
 /*
- * The desk: reads a codebook, and merges a game of ten frames that a lane sends as code words by a noisy radio.
+ * The desk: reads a codebook, and merges a game of ten frames that a lane sends as one burst of code words by a noisy radio.
  *
  *     desk BOOK
  *
- * The lane, the radio and the server are played by this file: the lane codes its frames, the radio damages the words in a way that every run repeats,
- * and the server has four of the ten frames, one of them wrong. What a desk does with a received word is in merge.c.
+ * The lane, the radio and the server are played by this file: the lane codes its frames and mixes their words, the radio damages the burst in a way
+ * that every run repeats, and the server has four of the ten frames, one of them wrong. What a desk does with a received burst is in merge.c.
+ *
+ * A contactor's spark spoils a dozen symbols in a row. In a burst these are of all ten words, two of each at most. In words that are sent one after
+ * another they are of one word, or of two or three that lie together. Both are shown, with the same spark.
  *
  * The lane hands over only the symbols that a frame fills, since an open frame fills few. Its word has n symbols all the same, and the desk reads all
  * k symbols from it, the zeros that were not handed over as well.
@@ -29,24 +32,15 @@ static const struct server_frame {
     struct frame frame;
 } server_frames[] = {{0, {{10, 0, 0}}}, {1, {{7, 3, 0}}}, {2, {{6, 0, 0}}}, {5, {{10, 0, 0}}}};
 
-/* What the radio does to a word: it changes one symbol in `one_in` (none for 0), makes the last symbol one that no book has, or loses the end. */
-enum fault { WHOLE, BAD_SYMBOL, CUT };
+/* What the radio does to a burst: it loses the end, makes the last symbol one that no book has, or has the spark in it. */
+enum fault { CUT, BAD_SYMBOL, SPARK };
+static const enum fault sendings[] = {CUT, BAD_SYMBOL, SPARK};
 
-/* Frame 9 is sent again after its first word was cut. */
-static const struct sending {
-    unsigned number;
-    unsigned one_in;
-    enum fault fault;
-} sendings[] = {
-    {0, 0, WHOLE}, {1, 63, WHOLE}, {2, 0, WHOLE}, {3, 0, WHOLE}, {4, 7, WHOLE}, {5, 3, WHOLE}, {6, 2, WHOLE}, {7, 0, BAD_SYMBOL}, {8, 0, CUT},
-    {8, 0, WHOLE}, {9, 5, WHOLE},
-};
-
-enum { SENDINGS = sizeof sendings / sizeof sendings[0], SERVER_FRAMES = sizeof server_frames / sizeof server_frames[0], TEXT = 64 };
+enum { SENDINGS = sizeof sendings / sizeof sendings[0], SERVER_FRAMES = sizeof server_frames / sizeof server_frames[0], DOZEN = 12, TEXT = 64 };
 
 struct delivery {
     size_t len;
-    uint8_t bytes[SHIFTSUM_WORD_MAX];
+    uint8_t bytes[RAW_MAX];
 };
 
 static void print_frame(const struct book *book, const struct frame *frame)
@@ -66,51 +60,68 @@ static size_t lane_code(const struct book *book, unsigned number, uint8_t *word)
     return shiftsum_code(book->bytes, book->len, message, filled, word, book->n) == 0 ? filled : 0;
 }
 
-/* The lane sends a frame, and the radio delivers what it makes of the word. */
-static int transmit(const struct book *book, const struct sending *sending, uint32_t *state, struct delivery *delivery)
+/* The lane's ten words: mixed, symbol j of word m at place 10 j + m, or one after another. */
+static int lane_send(const struct book *book, int mixed, uint8_t *symbols)
 {
-    size_t errors = sending->one_in == 0 ? 0 : (book->n + sending->one_in - 1) / sending->one_in;
-    delivery->len = book->n;
-    if (lane_code(book, sending->number, delivery->bytes) == 0)
-        return 0;
-    noise_damage(state, delivery->bytes, book->n, 1u << book->p, errors);
-    if (sending->fault == BAD_SYMBOL)
-        delivery->bytes[book->n - 1] = 0xff;
-    if (sending->fault == CUT)
-        delivery->len = book->n - 2;
+    uint8_t word[SHIFTSUM_WORD_MAX];
+    unsigned m;
+    size_t j;
+    for (m = 0; m < FRAMES; m++) {
+        if (lane_code(book, m, word) == 0)
+            return 0;
+        for (j = 0; j < book->n; j++)
+            symbols[mixed ? j * FRAMES + m : m * book->n + j] = word[j];
+    }
     return 1;
 }
 
-static void print_answer(uint32_t result)
+/* Spoils the same places in the same way, mixed or not. In words one after another it begins in the last third of the fourth. */
+static void spark(const struct book *book, uint8_t *symbols)
+{
+    uint32_t state = 20;
+    noise_damage(&state, symbols + 3 * book->n + 2 * book->n / 3, DOZEN, 1u << book->p, DOZEN);
+}
+
+/* The lane sends the game as a burst, and the radio delivers what it makes of it. */
+static int transmit(const struct book *book, enum fault fault, struct delivery *delivery)
+{
+    delivery->len = FRAMES * book->n;
+    if (!lane_send(book, 1, delivery->bytes))
+        return 0;
+    if (fault == CUT)
+        delivery->len -= 2;
+    if (fault == BAD_SYMBOL)
+        delivery->bytes[delivery->len - 1] = 0xff;
+    if (fault == SPARK)
+        spark(book, delivery->bytes);
+    return 1;
+}
+
+static void print_answer(const struct shiftsum_record *record)
 {
     char text[TEXT];
-    unsigned refusal = SHIFTSUM_REFUSAL(result);
-    unsigned rounds = SHIFTSUM_ROUNDS(result);
     const char *kind = "Spent";
-    if (SHIFTSUM_KIND(result) == SHIFTSUM_CLEAN)
+    if (record->kind == SHIFTSUM_CLEAN)
         kind = "Clean";
-    if (SHIFTSUM_KIND(result) == SHIFTSUM_MENDED)
+    if (record->kind == SHIFTSUM_MENDED)
         kind = "Mended";
-    if (SHIFTSUM_KIND(result) == SHIFTSUM_STALLED)
+    if (record->kind == SHIFTSUM_STALLED)
         kind = "Stalled";
-    if (refusal != 0)
-        snprintf(text, sizeof text, "refused, %u", refusal);
-    else
-        snprintf(text, sizeof text, "%s, %u round%s, %u changed", kind, rounds, rounds == 1 ? "" : "s", SHIFTSUM_CHANGED(result));
+    snprintf(text, sizeof text, "%s, %u round%s, %u changed", kind, record->rounds, record->rounds == 1 ? "" : "s", record->changed);
     printf("%-31s", text);
 }
 
 /* A Mended word may be another word than the one sent. Where no other frame confirms it, the desk says so. */
-static int unconfirmed(const struct held *held)
+static int unconfirmed(const struct word *word)
 {
-    return held->verdict == TAKEN && SHIFTSUM_KIND(held->result) == SHIFTSUM_MENDED;
+    return word->verdict == TAKEN && word->record.kind == SHIFTSUM_MENDED;
 }
 
-static const char *verdict_text(const struct held *held)
+static const char *verdict_text(const struct word *word)
 {
-    switch (held->verdict) {
+    switch (word->verdict) {
     case TAKEN:
-        return unconfirmed(held) ? "taken, UNCONFIRMED: mended, and there was no frame" : "taken: there was no frame";
+        return unconfirmed(word) ? "taken, UNCONFIRMED: mended, and there was no frame" : "taken: there was no frame";
     case AGREED:
         return "agrees with the frame that stands";
     case DISPUTED:
@@ -120,30 +131,28 @@ static const char *verdict_text(const struct held *held)
     case UNREACHED:
         return "OPEN: no code word was reached";
     case REFUSED:
-        return "OPEN: the word was refused";
+        return "OPEN: the burst was refused";
     }
     return "";
 }
 
-static void print_word(const struct book *book, const struct sending *sending, const struct held *held)
+static void print_word(const struct book *book, const struct held *held, unsigned m)
 {
-    static const char *const faults[] = {"", ", a bad symbol", ", cut"};
-    char text[TEXT];
+    const struct word *word = &held->words[m];
+    const unsigned number = held->first + m;
     uint8_t sent[SHIFTSUM_WORD_MAX];
-    size_t filled = lane_code(book, sending->number, sent), j, hit = 0;
-    for (j = 0; j < held->len && filled > 0; j++)
-        hit += sent[j] != held->raw[j];
-    printf("%5u  ", sending->number + 1);
-    print_frame(book, &lane_frames[sending->number]);
-    printf("%7zu  ", filled);
-    snprintf(text, sizeof text, "%zu hit%s", hit, faults[sending->fault]);
-    printf("%-20s", text);
-    print_answer(held->result);
-    if (held->verdict == TAKEN || held->verdict == AGREED || held->verdict == DISPUTED)
-        print_frame(book, &held->frame);
+    size_t filled = lane_code(book, number, sent), j, hit = 0;
+    for (j = 0; j < book->n && filled > 0; j++)
+        hit += sent[j] != merge_raw(held, m, j);
+    printf("%5u  ", number + 1);
+    print_frame(book, &lane_frames[number]);
+    printf("%7zu  %3zu  ", filled, hit);
+    print_answer(&word->record);
+    if (word->verdict == TAKEN || word->verdict == AGREED || word->verdict == DISPUTED)
+        print_frame(book, &word->frame);
     else
         printf("%-8s", "-");
-    printf("%s\n", verdict_text(held));
+    printf("%s\n", verdict_text(word));
 }
 
 static void print_game(const struct book *book, const struct game *game)
@@ -161,20 +170,26 @@ static void print_game(const struct book *book, const struct game *game)
     }
 }
 
-static void print_held(const struct game *game)
+static void print_held(const struct book *book, const struct game *game)
 {
     size_t i, j;
-    printf("\nRaw words held until the game is paid\n");
+    unsigned m;
+    printf("\nRaw bursts held until the game is paid, word by word where they were not refused\n");
     for (i = 0; i < game->held_count; i++) {
         const struct held *held = &game->held[i];
-        printf("frame %2u  %-12s", held->number + 1, merge_open(held->verdict) ? "OPEN" : unconfirmed(held) ? "UNCONFIRMED" : "settled");
-        for (j = 0; j < held->len; j++)
-            printf("%02x", (unsigned)held->raw[j]);
-        printf("\n");
+        if (held->result != 0)
+            printf("burst %2zu  %-12s%zu bytes\n", i + 1, "OPEN", held->len);
+        for (m = 0; m < held->count && held->result == 0; m++) {
+            const struct word *word = &held->words[m];
+            printf("frame %2u  %-12s", held->first + m + 1, merge_open(word->verdict) ? "OPEN" : unconfirmed(word) ? "UNCONFIRMED" : "settled");
+            for (j = 0; j < book->n; j++)
+                printf("%02x", (unsigned)merge_raw(held, m, j));
+            printf("\n");
+        }
     }
 }
 
-/* The promise of the merge: every word that came is held as it came, so a frame that is not what the lane saw can still be put right. */
+/* The promise of the merge: every burst that came is held as it came, so a frame that is not what the lane saw can still be put right. */
 static int all_held(const struct game *game, const struct delivery *deliveries)
 {
     size_t i;
@@ -195,42 +210,92 @@ static unsigned count_wrong(const struct book *book, const struct game *game)
     return wrong;
 }
 
-static void print_close(const struct book *book, struct game *game)
+static void print_close(const struct book *book, struct game *game, const struct game *apart)
 {
-    size_t i, open = 0, mended = 0;
+    size_t i, refused = 0, words = 0, open = 0, mended = 0;
+    unsigned m;
     for (i = 0; i < game->held_count; i++) {
-        open += merge_open(game->held[i].verdict) != 0;
-        mended += unconfirmed(&game->held[i]) != 0;
+        const struct held *held = &game->held[i];
+        refused += held->result != 0;
+        for (m = 0; m < held->count && held->result == 0; m++) {
+            words++;
+            open += merge_open(held->words[m].verdict) != 0;
+            mended += unconfirmed(&held->words[m]) != 0;
+        }
     }
-    printf("\n%zu of %zu words are open, %zu unconfirmed: a person looks at them before the game is paid.\n", open, game->held_count, mended);
+    printf("\n%zu of %zu bursts and %zu of %zu words are open, %zu words unconfirmed: a person looks at them before the game is paid.\n", refused,
+           game->held_count, open, words, mended);
     printf("Frames that are missing or not what the lane saw: %u of %d. The raw word of each is above.\n", count_wrong(book, game), FRAMES);
-    printf("The game is paid: %zu raw words released.\n", merge_paid(game));
+    printf("Had the words been sent one after another: %u of %d.\n", count_wrong(book, apart), FRAMES);
+    printf("The game is paid: %zu raw bursts released.\n", merge_paid(game));
+}
+
+static void begin(struct game *game)
+{
+    size_t i;
+    merge_begin(game);
+    for (i = 0; i < SERVER_FRAMES; i++)
+        merge_server(game, server_frames[i].number, &server_frames[i].frame);
+}
+
+static const char columns[] = "frame  sent    symbols  hit  answer                         read    verdict\n";
+
+/* The game as the lane sends it, in one burst, and again until it is not refused. */
+static int play_mixed(const struct book *book, struct game *game, struct delivery *deliveries)
+{
+    static const char *const faults[] = {"its end is lost", "a symbol that no book has", "a spark spoils a dozen symbols in a row"};
+    size_t i;
+    unsigned m;
+    begin(game);
+    printf("The lane's game in one burst, its ten words mixed\n");
+    for (i = 0; i < SENDINGS; i++) {
+        const struct held *held;
+        if (!transmit(book, sendings[i], &deliveries[i]))
+            return 0;
+        held = merge_lane(game, book, 0, FRAMES, deliveries[i].bytes, deliveries[i].len);
+        if (held == NULL)
+            return 0;
+        printf("burst %zu, %s", i + 1, faults[sendings[i]]);
+        if (held->result != 0)
+            printf(": refused, %u\n", SHIFTSUM_REFUSAL(held->result));
+        else
+            printf("\n%s", columns);
+        for (m = 0; m < held->count && held->result == 0; m++)
+            print_word(book, held, m);
+    }
+    return 1;
+}
+
+/* The same words and the same spark, the words one after another: each is a burst of its own. */
+static int play_apart(const struct book *book, struct game *game)
+{
+    uint8_t symbols[RAW_MAX];
+    unsigned i;
+    begin(game);
+    printf("\nThe same ten words one after another, the same spark\n%s", columns);
+    if (!lane_send(book, 0, symbols))
+        return 0;
+    spark(book, symbols);
+    for (i = 0; i < FRAMES; i++) {
+        const struct held *held = merge_lane(game, book, i, 1, symbols + i * book->n, book->n);
+        if (held == NULL || held->result != 0)
+            return 0;
+        print_word(book, held, 0);
+    }
+    return 1;
 }
 
 static int play(const struct book *book)
 {
-    static struct game game;
+    static struct game game, apart;
     static struct delivery deliveries[SENDINGS];
-    uint32_t state = 20;
-    size_t i;
-    merge_begin(&game);
-    for (i = 0; i < SERVER_FRAMES; i++)
-        merge_server(&game, server_frames[i].number, &server_frames[i].frame);
-    printf("The lane's words\nframe  sent    symbols  radio               answer                         read    verdict\n");
-    for (i = 0; i < SENDINGS; i++) {
-        const struct held *held;
-        if (!transmit(book, &sendings[i], &state, &deliveries[i]))
-            return 0;
-        held = merge_lane(&game, book, sendings[i].number, deliveries[i].bytes, deliveries[i].len);
-        if (held == NULL)
-            return 0;
-        print_word(book, &sendings[i], held);
-    }
+    if (!play_mixed(book, &game, deliveries) || !play_apart(book, &apart))
+        return 0;
     print_game(book, &game);
-    print_held(&game);
+    print_held(book, &game);
     if (!all_held(&game, deliveries))
         return 0;
-    print_close(book, &game);
+    print_close(book, &game, &apart);
     return 1;
 }
 
@@ -255,7 +320,7 @@ int main(int argc, char **argv)
     printf("codebook accepted: words of %zu symbols below %u, messages of up to %zu, %u dual word%s\n\n", book.n, 1u << book.p, book.k,
            SHIFTSUM_DUAL_WORDS(result), SHIFTSUM_DUAL_WORDS(result) == 1 ? "" : "s");
     if (!play(&book)) {
-        printf("failed: a word could not be coded or held\n");
+        printf("failed: a word could not be coded, or a burst not held\n");
         return 1;
     }
     return 0;

@@ -14,55 +14,67 @@ void merge_server(struct game *game, unsigned number, const struct frame *frame)
 }
 
 /* Keeps the bytes as they came. */
-static struct held *hold(struct game *game, unsigned number, const uint8_t *received, size_t len)
+static struct held *hold(struct game *game, unsigned first, unsigned count, const uint8_t *received, size_t len)
 {
     struct held *held;
-    if (number >= FRAMES || game->held_count == HELD_MAX || len > RAW_MAX)
+    if (first > FRAMES || count > FRAMES - first || game->held_count == HELD_MAX || len > RAW_MAX)
         return NULL;
     held = &game->held[game->held_count++];
     memset(held, 0, sizeof *held);
-    held->number = number;
+    held->first = first;
+    held->count = count;
     held->len = len;
     memcpy(held->raw, received, len);
     return held;
 }
 
-/* Decodes and reads the held word. The verdict where there is no frame in it, otherwise TAKEN with the frame in the record. */
-static enum verdict read_frame(const struct book *book, struct held *held)
+/* Reads a word's answer by its kind. The verdict where there is no frame in it, otherwise TAKEN with the frame beside it. */
+static enum verdict read_frame(const struct book *book, const uint8_t *answer, struct word *word)
 {
-    uint8_t answer[SHIFTSUM_WORD_MAX], message[SHIFTSUM_WORD_MAX];
-    uint32_t result;
-    char kind;
-    held->result = shiftsum_decode(book->bytes, book->len, held->raw, held->len, answer, book->n);
-    if (SHIFTSUM_REFUSAL(held->result) != 0)
-        return REFUSED;
-    kind = SHIFTSUM_KIND(held->result);
-    if (kind != SHIFTSUM_CLEAN && kind != SHIFTSUM_MENDED)
+    uint8_t message[SHIFTSUM_WORD_MAX];
+    if (word->record.kind != SHIFTSUM_CLEAN && word->record.kind != SHIFTSUM_MENDED)
         return UNREACHED;
     /* All k symbols, however many the lane handed over: a short frame has its zeros again. */
-    result = shiftsum_read(book->bytes, book->len, answer, book->n, message, book->k);
-    if (result != 0) {
-        held->result = result; /* Not met: the answer of a Clean or Mended word is a code word. */
-        return REFUSED;
-    }
-    return frame_unpack(book, message, &held->frame) ? TAKEN : IMPOSSIBLE;
+    if (shiftsum_read(book->bytes, book->len, answer, book->n, message, book->k) != 0)
+        return REFUSED; /* Not met: the answer of a Clean or Mended word is a code word. */
+    return frame_unpack(book, message, &word->frame) ? TAKEN : IMPOSSIBLE;
 }
 
-const struct held *merge_lane(struct game *game, const struct book *book, unsigned number, const uint8_t *received, size_t len)
+static void merge_word(struct game *game, const struct book *book, unsigned number, const uint8_t *answer, struct word *word)
 {
-    struct held *held = hold(game, number, received, len);
-    if (held == NULL)
-        return NULL;
-    held->verdict = read_frame(book, held);
-    if (held->verdict != TAKEN)
-        return held;
+    word->verdict = read_frame(book, answer, word);
+    if (word->verdict != TAKEN)
+        return;
     if (game->source[number] == NOBODY) {
         game->source[number] = LANE;
-        game->frames[number] = held->frame;
+        game->frames[number] = word->frame;
     } else {
-        held->verdict = frame_equal(book, &game->frames[number], &held->frame) ? AGREED : DISPUTED;
+        word->verdict = frame_equal(book, &game->frames[number], &word->frame) ? AGREED : DISPUTED;
+    }
+}
+
+const struct held *merge_lane(struct game *game, const struct book *book, unsigned first, unsigned count, const uint8_t *received, size_t len)
+{
+    uint8_t answers[RAW_MAX];
+    struct shiftsum_record records[FRAMES];
+    struct held *held = hold(game, first, count, received, len);
+    unsigned m;
+    if (held == NULL)
+        return NULL;
+    held->result = shiftsum_burst(book->bytes, book->len, count, held->raw, len, answers, book->n * count, records, count);
+    for (m = 0; m < count; m++) {
+        held->words[m].verdict = REFUSED;
+        if (held->result != 0)
+            continue;
+        held->words[m].record = records[m];
+        merge_word(game, book, first + m, answers + m * book->n, &held->words[m]);
     }
     return held;
+}
+
+uint8_t merge_raw(const struct held *held, unsigned m, size_t j)
+{
+    return held->raw[j * held->count + m];
 }
 
 int merge_open(enum verdict verdict)

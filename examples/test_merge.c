@@ -3,8 +3,8 @@
  *
  *     test_merge BOOKS
  *
- * by book A, line15 and line63 of the folder BOOKS. Every word must be held as it came, the frame that stood must stand, and a frame that was coded
- * short must come back with its zeros.
+ * by book A, line15, line63 and line255 of the folder BOOKS. Every burst must be held as it came, the frame that stood must stand, a frame that was
+ * coded short must come back with its zeros, and a dozen symbols spoiled in a row must lose no word of a burst.
  */
 #include "merge.h"
 
@@ -25,7 +25,7 @@ static void expect(const char *name, int holds)
     printf("failed: %s\n", name);
 }
 
-/* Merges a word written as digits, for frame 1 of the game. */
+/* Merges a word written as digits, a burst of one, for frame 1 of the game. */
 static void merges(const char *name, const struct book *book, const char *digits, enum verdict verdict, enum source source, unsigned pins)
 {
     uint8_t word[RAW_MAX];
@@ -33,8 +33,8 @@ static void merges(const char *name, const struct book *book, const char *digits
     const struct held *held;
     for (j = 0; j < len; j++)
         word[j] = (uint8_t)(digits[j] - '0');
-    held = merge_lane(&game, book, 0, word, len);
-    expect(name, held != NULL && held->verdict == verdict);
+    held = merge_lane(&game, book, 0, 1, word, len);
+    expect(name, held != NULL && held->words[0].verdict == verdict);
     expect(name, game.source[0] == source && game.frames[0].pins[0] == pins);
     expect(name, game.held_count == before + 1 && held == &game.held[before] && held->len == len && memcmp(held->raw, word, len) == 0);
     expect(name, merge_open(verdict) == (verdict != TAKEN && verdict != AGREED));
@@ -85,17 +85,106 @@ static void test_server(void)
 /* What cannot be held is not merged either. */
 static void test_room(void)
 {
-    static const uint8_t long_word[RAW_MAX + 1];
+    static const uint8_t long_burst[RAW_MAX + 1];
     static const uint8_t one_pin[7] = {1, 1, 0, 1};
     unsigned i;
     begin(0, 0);
-    expect("a word too long to be held", merge_lane(&game, &book_a, 0, long_word, sizeof long_word) == NULL && game.held_count == 0);
-    expect("a frame that no game has", merge_lane(&game, &book_a, FRAMES, one_pin, 7) == NULL && game.held_count == 0);
+    expect("a burst too long to be held", merge_lane(&game, &book_a, 0, 1, long_burst, sizeof long_burst) == NULL && game.held_count == 0);
+    expect("a frame that no game has", merge_lane(&game, &book_a, FRAMES, 1, one_pin, 7) == NULL && game.held_count == 0);
+    expect("a frame far from it", merge_lane(&game, &book_a, FRAMES + 1, 1, one_pin, 7) == NULL && game.held_count == 0);
+    expect("more words than frames", merge_lane(&game, &book_a, 0, FRAMES + 1, long_burst, 7 * (FRAMES + 1)) == NULL && game.held_count == 0);
+    expect("more words than frames are left", merge_lane(&game, &book_a, FRAMES - 1, 2, long_burst, 14) == NULL && game.held_count == 0);
     for (i = 0; i < HELD_MAX; i++)
-        expect("room", merge_lane(&game, &book_a, 0, one_pin, 7) != NULL);
-    expect("no room", merge_lane(&game, &book_a, 1, one_pin, 7) == NULL && game.source[1] == NOBODY && game.held_count == HELD_MAX);
+        expect("room", merge_lane(&game, &book_a, 0, 1, one_pin, 7) != NULL);
+    expect("no room", merge_lane(&game, &book_a, 1, 1, one_pin, 7) == NULL && game.source[1] == NOBODY && game.held_count == HELD_MAX);
     expect("paid", merge_paid(&game) == HELD_MAX && game.held_count == 0 && game.held[0].raw[0] == 0);
-    expect("room again, and the game stands", merge_lane(&game, &book_a, 1, one_pin, 7) != NULL && game.source[0] == LANE);
+    expect("room again, and the game stands", merge_lane(&game, &book_a, 1, 1, one_pin, 7) != NULL && game.source[0] == LANE);
+}
+
+enum { THREE = 3 };
+
+/* Merges a burst of three words written as digits, for frames 2 to 4, with so many symbols lost at its end. */
+static const struct held *merges_three(const char *name, const struct book *book, const char *const *digits, size_t lost)
+{
+    uint8_t burst[RAW_MAX];
+    size_t j, before = game.held_count;
+    const struct held *held;
+    unsigned m;
+    for (m = 0; m < THREE; m++)
+        for (j = 0; j < book->n; j++)
+            burst[THREE * j + m] = (uint8_t)(digits[m][j] - '0');
+    held = merge_lane(&game, book, 1, THREE, burst, THREE * book->n - lost);
+    expect(name, held == &game.held[before] && held->len == THREE * book->n - lost && memcmp(held->raw, burst, held->len) == 0);
+    for (m = 0; m < THREE && lost == 0; m++)
+        for (j = 0; j < book->n; j++)
+            expect(name, merge_raw(held, m, j) == (uint8_t)(digits[m][j] - '0'));
+    return held;
+}
+
+/* Each word of a burst goes by its own kind, and a refused burst by none. */
+static void test_burst(void)
+{
+    static const char *const frames[] = {"1101000", "0110101", "1010001"};
+    static const char *const kinds[] = {"001011001000000", "001010001000100", "111010001000000"};
+    static const char *const bad[] = {"1101000", "1101000", "1101002"};
+    const struct held *held;
+    unsigned m;
+    begin(0, 0);
+    held = merges_three("one pin, two pins, eleven pins", &book_a, frames, 0);
+    expect("Clean, taken", held->words[0].verdict == TAKEN && held->words[0].record.kind == SHIFTSUM_CLEAN && game.frames[1].pins[0] == 1);
+    expect("Mended, taken", held->words[1].verdict == TAKEN && held->words[1].record.kind == SHIFTSUM_MENDED && game.frames[2].pins[0] == 2);
+    expect("no frame", held->words[2].verdict == IMPOSSIBLE && game.source[3] == NOBODY && game.source[0] == NOBODY);
+    held = merges_three("the same again", &book_a, frames, 0);
+    expect("agreed", held->words[0].verdict == AGREED && held->words[1].verdict == AGREED && held->words[2].verdict == IMPOSSIBLE);
+    begin(0, 0);
+    held = merges_three("Spent, Stalled, Clean", &line15, kinds, 0);
+    expect("Spent", held->words[0].verdict == UNREACHED && held->words[0].record.kind == SHIFTSUM_SPENT && game.source[1] == NOBODY);
+    expect("Stalled", held->words[1].verdict == UNREACHED && held->words[1].record.kind == SHIFTSUM_STALLED && game.source[2] == NOBODY);
+    expect("Clean", held->words[2].verdict == TAKEN && held->words[2].record.kind == SHIFTSUM_CLEAN && game.source[3] == LANE);
+    begin(0, 0);
+    expect("a bad symbol in one word", merges_three("a bad symbol", &book_a, bad, 0)->result == 11);
+    expect("a burst cut", merges_three("cut", &book_a, frames, 1)->result == 9);
+    for (m = 0; m < 2 * THREE; m++)
+        expect("no word of a refused burst", game.held[m / THREE].words[m % THREE].verdict == REFUSED && game.source[1 + m % THREE] == NOBODY);
+    held = merge_lane(&game, &book_a, 0, 0, (const uint8_t *)"", 0);
+    expect("a burst of no word", held != NULL && held->result == 14);
+}
+
+/* How many frames of a game are not those that were sent: one pin in the first, two in the second, and so on. */
+static unsigned lost_frames(void)
+{
+    unsigned m, lost = 0;
+    for (m = 0; m < FRAMES; m++)
+        lost += game.source[m] != LANE || game.frames[m].pins[0] != m + 1;
+    return lost;
+}
+
+/* A dozen symbols in a row go wrong, wherever they begin: of a burst no word is lost, and of the same words one after another one is at least. */
+static void test_spark(void)
+{
+    enum { N = 15, DOZEN = 12, SYMBOLS = FRAMES * N };
+    uint8_t message[SHIFTSUM_WORD_MAX], word[N], burst[SYMBOLS], row[SYMBOLS], mixed[SYMBOLS], apart[SYMBOLS];
+    size_t at, j;
+    unsigned m;
+    for (m = 0; m < FRAMES; m++) {
+        struct frame frame = {{m + 1, 0, 0}};
+        expect("a word", shiftsum_code(line15.bytes, line15.len, message, frame_pack(&line15, &frame, message), word, N) == 0);
+        for (j = 0; j < N; j++)
+            burst[FRAMES * j + m] = row[N * m + j] = word[j];
+    }
+    for (at = 0; at + DOZEN <= SYMBOLS; at++) {
+        for (j = 0; j < SYMBOLS; j++) {
+            const uint8_t spoiled = j >= at && j < at + DOZEN;
+            mixed[j] = burst[j] ^ spoiled;
+            apart[j] = row[j] ^ spoiled;
+        }
+        begin(0, 0);
+        expect("a spark in a burst", merge_lane(&game, &line15, 0, FRAMES, mixed, SYMBOLS) != NULL && lost_frames() == 0);
+        begin(0, 0);
+        for (m = 0; m < FRAMES; m++)
+            merge_lane(&game, &line15, m, 1, apart + N * m, N);
+        expect("a spark in words one after another", game.held_count == FRAMES && lost_frames() > 0);
+    }
 }
 
 /* A frame that fills so many symbols is coded from these alone, and merged. */
@@ -112,8 +201,8 @@ static void sends_short(const char *name, const struct book *book, struct frame 
     for (j = 0; j < book->k; j++)
         expect(name, read[j] == (j < filled ? message[j] : 0));
     begin(0, 0);
-    held = merge_lane(&game, book, 0, word, book->n);
-    expect(name, held != NULL && held->verdict == TAKEN && memcmp(&game.frames[0], &frame, sizeof frame) == 0);
+    held = merge_lane(&game, book, 0, 1, word, book->n);
+    expect(name, held != NULL && held->words[0].verdict == TAKEN && memcmp(&game.frames[0], &frame, sizeof frame) == 0);
 }
 
 /* Of line63's 13 symbols, and of line255's 21, a ball fills up to two, of line15's 7 the first ball up to four, of book A's 4 all. */
@@ -155,6 +244,8 @@ int main(int argc, char **argv)
     test_verdicts();
     test_server();
     test_room();
+    test_burst();
+    test_spark();
     test_short();
     printf("%lu passed, %lu failed\n", passed, failed);
     return failed == 0 ? 0 : 1;

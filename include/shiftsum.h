@@ -30,15 +30,15 @@
  * What every call does:
  *   - It is a pure function of its arguments: no state, no allocation, no input or output, no errno. Any number of threads may call at once.
  *   - It ends for every input.
- *   - It writes its one output whole, or, where it is refused, not at all. Every other buffer is only read.
+ *   - It writes its outputs whole, or, where it is refused, not at all. Every other buffer is only read. All but shiftsum_burst have one output or none.
  *   - It takes less than SHIFTSUM_STACK bytes of stack with a codebook of the short form, less than SHIFTSUM_STACK_LONG with any, also with one that
  *     is refused. This is measured, not proved.
  *
  * What the caller sees to, since no call can:
  *   - No pointer is null, also where its length is 0. Memory needs no alignment.
- *   - A length is the count of bytes that may be read, or written, behind its pointer.
- *   - The output overlaps neither the codebook nor the input. The codebook and the input may overlap each other.
- *   - No other thread writes to these buffers, or reads the output, during the call.
+ *   - A length is the count of bytes, or of records, that may be read, or written, behind its pointer.
+ *   - An output overlaps neither the codebook nor the input nor another output. The codebook and the input may overlap each other.
+ *   - No other thread writes to these buffers, or reads an output, during the call.
  */
 #ifndef SHIFTSUM_H
 #define SHIFTSUM_H
@@ -58,28 +58,33 @@ extern "C" {
 #define SHIFTSUM_WORD_MIN 3
 #define SHIFTSUM_WORD_MAX 255
 
+/* Words of a burst: 1 to 16. */
+#define SHIFTSUM_BURST_MAX 16
+
 /* Bytes of stack that are enough for any call with a codebook of the short form, and for any call at all. */
 #define SHIFTSUM_STACK 65536
 #define SHIFTSUM_STACK_LONG 81920
 
 /*
- * A result is four bytes in a number. The lowest is 0, or the number of the refusal, and then the other three are 0. The first number that applies
- * is the one returned:
+ * A result is four bytes in a number. The lowest is 0, or the number of the refusal, and then the other three are 0. The first that applies, in the
+ * order of this table, is the one returned:
  *
- *      1  codebook: its length is none of the form that byte 3 chooses, or, with     check, code, read, remainder, decode
+ *      1  codebook: its length is none of the form that byte 3 chooses, or, with     check, code, read, remainder, decode, burst
  *         another byte 3, of neither form; so also fewer than 4 bytes
- *      2  codebook: a kind byte                                                      check, code, read, remainder, decode
- *      3  codebook: s or p, also an s of the other form                              check, code, read, remainder, decode
- *      4  codebook: a symbol of q or more, or a nonzero place from n on              check, code, read, remainder, decode
- *      5  codebook: the generator                                                    check, code, read, remainder, decode
- *      6  codebook: I or D                                                           check, code, read, remainder, decode
- *      7  codebook: a dual word's place 0, product with g, or weight                 check, code, read, remainder, decode
- *      8  codebook: two dual words are alike: one is a nonzero symbol times a turn   check, code, read, remainder, decode
+ *      2  codebook: a kind byte                                                      check, code, read, remainder, decode, burst
+ *      3  codebook: s or p, also an s of the other form                              check, code, read, remainder, decode, burst
+ *      4  codebook: a symbol of q or more, or a nonzero place from n on              check, code, read, remainder, decode, burst
+ *      5  codebook: the generator                                                    check, code, read, remainder, decode, burst
+ *      6  codebook: I or D                                                           check, code, read, remainder, decode, burst
+ *      7  codebook: a dual word's place 0, product with g, or weight                 check, code, read, remainder, decode, burst
+ *      8  codebook: two dual words are alike: one is a nonzero symbol times a turn   check, code, read, remainder, decode, burst
  *         of the other; so also two equal ones
- *      9  input: none or more than k symbols (code), not n symbols (read, remainder,        code, read, remainder, decode
- *         decode)
- *     10  output: its length is not exact, n (code, decode), k (read), n - k (remainder)    code, read, remainder, decode
- *     11  input: a symbol of q or more                                                      code, read, remainder, decode
+ *     14  M, the count of words: 0, or above 16                                                                           burst
+ *      9  input: none or more than k symbols (code), not n symbols (read, remainder,        code, read, remainder, decode, burst
+ *         decode), not n * M (burst)
+ *     10  output: its length is not exact, n (code, decode), k (read), n - k                code, read, remainder, decode, burst
+ *         (remainder), n * M bytes or M records (burst)
+ *     11  input: a symbol of q or more                                                      code, read, remainder, decode, burst
  *     12  input: not a code word                                                                  read
  *
  * (13, the inverse of zero, is of the field's operations and is not met here.)
@@ -148,6 +153,23 @@ uint32_t shiftsum_remainder(const uint8_t *book, size_t book_len, const uint8_t 
  * Returns no refusal and the kind of answer, the rounds and the count of changed places, or a refusal from 1 to 11.
  */
 uint32_t shiftsum_decode(const uint8_t *book, size_t book_len, const uint8_t *received, size_t received_len, uint8_t *answer, size_t answer_len);
+
+/* What a burst tells of a word: the kind of answer (its letter), the rounds, and the count of changed places, as decode tells them. Three bytes. */
+struct shiftsum_record {
+    uint8_t kind, rounds, changed;
+};
+
+/*
+ * Decodes a burst: M words of one codebook, received mixed, so that damage to a dozen symbols in a row is spread over all words. Symbol j of word m is
+ * received at place j * M + m. What is written of each word is what shiftsum_decode would say and write of it by itself; the codebook is checked once.
+ *   words    M, 1 to 16 (SHIFTSUM_BURST_MAX)
+ *   received n * M symbols, mixed
+ *   answers  n * M bytes, written: the answer words one after another, not mixed; word m from place m * n on
+ *   records  M records (records_len counts records, not bytes), written: record m is of word m
+ * Returns 0, or a refusal from 1 to 11 or 14. One symbol of q or more refuses the whole burst.
+ */
+uint32_t shiftsum_burst(const uint8_t *book, size_t book_len, uint32_t words, const uint8_t *received, size_t received_len, uint8_t *answers,
+                        size_t answers_len, struct shiftsum_record *records, size_t records_len);
 
 #ifdef __cplusplus
 }

@@ -1,17 +1,24 @@
 /*
- * The library called from C by its header alone: the scope's codebooks A, B and C, its cases, the refusals of its table, and the longest words and
- * codebooks of both forms. It is C++ as well, since the header is.
+ * The library called from C by its header alone: the scope's codebooks A, B and C, its cases, bursts of them, the refusals of its table, and the
+ * longest words, bursts and codebooks of both forms. It is C++ as well, since the header is.
  *
  * Every input ends where its block of memory ends, so that a memory checker sees a read beyond it. Every output lies between guards.
  */
+#define _DEFAULT_SOURCE
 #include "shiftsum.h"
 #include "shiftsum.h" /* A second time changes nothing. */
 
+#include <assert.h>
 #include <stdio.h>
 #include <stdlib.h>
 #include <string.h>
+#include <sys/mman.h>
+
+/* A list of records is as many bytes long as the library takes it to be. */
+static_assert(sizeof(struct shiftsum_record) == 3, "a record has three bytes");
 
 enum { BOOK = 134, RECORD = 64, WORD_A = 7, MESSAGE_A = 4, REMAINDER_A = 3, LARGEST = SHIFTSUM_WORD_MAX, GUARD = 32 };
+enum { WORDS = SHIFTSUM_BURST_MAX, LARGEST_BURST = WORDS * LARGEST };
 
 /* A codebook of the long form with one dual word, and a record of it; where its I and its dual words lie. */
 enum { LONG_BOOK = 518, LONG_RECORD = 256, LONG_I = 260, LONG_DUAL_WORD = 263 };
@@ -114,29 +121,71 @@ static size_t symbols(uint8_t *word, const char *digits)
 
 typedef uint32_t (*function)(const uint8_t *, size_t, const uint8_t *, size_t, uint8_t *, size_t);
 
+/* An output of so many bytes between guards. */
+static uint8_t *lay(size_t len)
+{
+    uint8_t *block = allocate(GUARD + len + GUARD);
+    memset(block, 0xa5, GUARD + len + GUARD);
+    return block + GUARD;
+}
+
+/* Compares an output and the guards with what is expected, and takes it back; one expected to be NULL must be as it was. */
+static void expect_output(const char *name, const char *what, uint8_t *written, const uint8_t *output, size_t len)
+{
+    uint8_t *before = lay(len);
+    expect_bytes(name, what, written, output == NULL ? before : output, len);
+    expect_bytes(name, "the bytes before the output", written - GUARD, before, GUARD);
+    expect_bytes(name, "the bytes after the output", written + len, before, GUARD);
+    free(written - GUARD);
+    free(before - GUARD);
+}
+
+/* Compares a codebook or an input with what was lent, and takes it back. */
+static void expect_lent(const char *name, const char *what, uint8_t *lent, const uint8_t *bytes, size_t len)
+{
+    expect_bytes(name, what, lent, bytes, len);
+    take_back(lent);
+}
+
 /* Calls, and compares result and output with what is expected; an output expected to be NULL must be as it was. */
 static void call(const char *name, function called, const uint8_t *book, size_t book_len, const uint8_t *input, size_t input_len,
                  const uint8_t *output, size_t output_len, uint32_t result)
 {
-    uint8_t *lent_book = lend(book, book_len);
-    uint8_t *lent_input = lend(input, input_len);
-    uint8_t *block = allocate(GUARD + output_len + GUARD);
-    uint8_t *before = allocate(GUARD + output_len + GUARD);
-    uint8_t *written = block + GUARD;
-    memset(before, 0xa5, GUARD + output_len + GUARD);
-    memcpy(block, before, GUARD + output_len + GUARD);
-
+    uint8_t *lent_book = lend(book, book_len), *lent_input = lend(input, input_len), *written = lay(output_len);
     expect_number(name, "the result", called(lent_book, book_len, lent_input, input_len, written, output_len), result);
-    expect_bytes(name, "the output", written, output == NULL ? before + GUARD : output, output_len);
-    expect_bytes(name, "the bytes before the output", block, before, GUARD);
-    expect_bytes(name, "the bytes after the output", written + output_len, before, GUARD);
-    expect_bytes(name, "the codebook after the call", lent_book, book, book_len);
-    expect_bytes(name, "the input after the call", lent_input, input, input_len);
+    expect_output(name, "the output", written, output, output_len);
+    expect_lent(name, "the codebook after the call", lent_book, book, book_len);
+    expect_lent(name, "the input after the call", lent_input, input, input_len);
+}
 
-    take_back(lent_book);
-    take_back(lent_input);
-    free(block);
-    free(before);
+/* The arguments of a burst, answers and records being those that are expected, or NULL where they must be as they were. */
+struct burst {
+    const uint8_t *book;
+    size_t book_len;
+    uint32_t words;
+    const uint8_t *received;
+    size_t received_len;
+    const uint8_t *answers;
+    size_t answers_len;
+    const struct shiftsum_record *records;
+    size_t records_len;
+};
+
+/* The same for a burst, which has two outputs. */
+static void call_burst(const char *name, struct burst burst, uint32_t result)
+{
+    const size_t list_len = burst.records_len * sizeof *burst.records;
+    uint8_t *book = lend(burst.book, burst.book_len), *received = lend(burst.received, burst.received_len);
+    uint8_t *answers = lay(burst.answers_len), *list = lay(list_len);
+    struct shiftsum_record *records = (struct shiftsum_record *)list;
+    expect_number(name, "the result",
+                  shiftsum_burst(book, burst.book_len, burst.words, received, burst.received_len, answers, burst.answers_len, records,
+                                 burst.records_len),
+                  result);
+    expect_output(name, "the answers", answers, burst.answers, burst.answers_len);
+    expect_output(name, "the list", list, (const uint8_t *)burst.records, list_len);
+    expect_lent(name, "the codebook after the call", book, burst.book, burst.book_len);
+    expect_lent(name, "the input after the call", received, burst.received, burst.received_len);
 }
 
 /* The same with input and output as digits, for an accepted call. */
@@ -154,6 +203,26 @@ static void refuses(const char *name, function called, const uint8_t *book, cons
     uint8_t in[LARGEST];
     size_t in_len = symbols(in, input);
     call(name, called, book, BOOK, in, in_len, NULL, output_len, number);
+}
+
+/* A burst with a codebook of one dual word, its symbols as digits, that is accepted. */
+static void gives_burst(const char *name, const uint8_t *book, uint32_t words, const char *mixed, const char *answers,
+                        const struct shiftsum_record *records)
+{
+    uint8_t in[LARGEST], out[LARGEST];
+    const size_t in_len = symbols(in, mixed), out_len = symbols(out, answers);
+    const struct burst burst = {book, BOOK, words, in, in_len, out, out_len, records, words};
+    call_burst(name, burst, 0);
+}
+
+/* The same for one that is refused. */
+static void refuses_burst(const char *name, const uint8_t *book, uint32_t words, const char *mixed, size_t answers_len, size_t records_len,
+                          uint32_t number)
+{
+    uint8_t in[LARGEST];
+    const size_t in_len = symbols(in, mixed);
+    const struct burst burst = {book, BOOK, words, in, in_len, NULL, answers_len, NULL, records_len};
+    call_burst(name, burst, number);
 }
 
 /* The result of decode, put together from its parts. */
@@ -318,10 +387,30 @@ static void test_remainder(void)
     leaves("C, case 4", book_c, "021", "0", 2);
 }
 
+/* Place 0 of each word, then place 1, and so on. */
+static void test_burst(void)
+{
+    static const struct shiftsum_record program[] = {{SHIFTSUM_MENDED, 1, 1}, {SHIFTSUM_MENDED, 1, 1}, {SHIFTSUM_CLEAN, 0, 0}};
+    static const struct shiftsum_record reversed[] = {{SHIFTSUM_CLEAN, 0, 0}, {SHIFTSUM_MENDED, 1, 1}, {SHIFTSUM_MENDED, 1, 1}};
+    static const struct shiftsum_record mended_stalled[] = {{SHIFTSUM_MENDED, 1, 1}, {SHIFTSUM_STALLED, 1, 0}};
+    static const struct shiftsum_record around[] = {{SHIFTSUM_SPENT, 3, 0}, {SHIFTSUM_CLEAN, 0, 0}, {SHIFTSUM_SPENT, 3, 0}};
+    static const struct shiftsum_record all_changed[] = {{SHIFTSUM_MENDED, 1, 3}, {SHIFTSUM_CLEAN, 0, 0}};
+    gives_burst("the program's words", book_a, 3, "111" "011" "000" "001" "000" "000" "000", "0000000" "1101000" "1101000", program);
+    gives_burst("the program's words, the last first", book_a, 3, "111" "110" "000" "100" "000" "000" "000", "1101000" "1101000" "0000000",
+                reversed);
+    gives_burst("case 7 alone", book_a, 1, "1100000", "1101000", program);
+    gives_burst("cases 10 and 11", book_b, 2, "31" "12" "10", "111" "120", mended_stalled);
+    gives_burst("case 9 around a code word", with(book_a, AT_D, 7), 3, "111" "010" "000" "010" "000" "000" "000", "1000000" "1101000" "1000000",
+                around);
+    gives_burst("cases 14 and 4", with(book_c, AT_D, 3), 2, "10" "02" "01", "032" "021", all_changed);
+}
+
 /* A refused codebook is refused by every function, whatever the call is else. */
 static void refused(const char *name, const uint8_t *book, size_t book_len, uint32_t number)
 {
     uint8_t message[MESSAGE_A], word[WORD_A], bad[WORD_A];
+    const struct burst good_burst = {book, book_len, 1, word, WORD_A, NULL, WORD_A, NULL, 1};
+    const struct burst bad_burst = {book, book_len, 17, bad, WORD_A, NULL, WORD_A + 1, NULL, 3};
     uint8_t *lent = lend(book, book_len);
     symbols(message, "1000");
     symbols(word, "1101000");
@@ -336,6 +425,8 @@ static void refused(const char *name, const uint8_t *book, size_t book_len, uint
     call(name, shiftsum_decode, book, book_len, word, WORD_A, NULL, WORD_A, number);
     call(name, shiftsum_decode, book, book_len, bad, WORD_A - 1, NULL, WORD_A + 1, number);
     call(name, shiftsum_code, book, book_len, message, 0, NULL, 0, number);
+    call_burst(name, good_burst, number);
+    call_burst(name, bad_burst, number);
 }
 
 static void test_refused_codebooks(void)
@@ -438,6 +529,66 @@ static void test_refused_lengths(void)
     refuses("refusals 9 and 11", shiftsum_code, book_a, "20000", WORD_A, 9);
     refuses("refusals 9, 10 and 11", shiftsum_code, book_a, "00002", 6, 9);
     refuses("refusals 10 and 11", shiftsum_code, book_a, "2", 6, 10);
+}
+
+/* Three words of A have 21 symbols. */
+static void test_refused_bursts(void)
+{
+    static const uint8_t zeros[17 * WORD_A] = {0};
+    static const uint32_t counts[] = {0, 17, 18, 255, 256, 256 + 3, 65536 + 3, 0x80000000u, 0x80000003u, 0xffffffffu};
+    const char *const mixed = "111" "011" "000" "001" "000" "000" "000", *const bad = "111" "011" "000" "001" "000" "000" "002";
+    const struct burst seventeen = {book_a, BOOK, 17, zeros, sizeof zeros, NULL, sizeof zeros, NULL, 17};
+    char name[64];
+    size_t i;
+    for (i = 0; i < sizeof counts / sizeof counts[0]; i++) {
+        snprintf(name, sizeof name, "refusal 14: %lu words", (unsigned long)counts[i]);
+        refuses_burst(name, book_a, counts[i], mixed, 21, 3, 14);
+        refuses_burst(name, book_a, counts[i], "", 0, 0, 14);
+        refuses_burst(name, book_a, counts[i], bad, 20, 4, 14);
+    }
+    call_burst("refusal 14: 17 words, and buffers for them", seventeen, 14);
+    refuses_burst("refusal 9: 20 symbols", book_a, 3, "11101100000100000000", 21, 3, 9);
+    refuses_burst("refusal 9: 22 symbols", book_a, 3, "1110110000010000000000", 21, 3, 9);
+    refuses_burst("refusal 9: 7 symbols", book_a, 3, "1101000", 21, 3, 9);
+    refuses_burst("refusal 9: no symbols", book_a, 3, "", 21, 3, 9);
+    refuses_burst("refusal 9: symbols of three words for one", book_a, 1, mixed, 7, 1, 9);
+    refuses_burst("refusal 10: answers of 20", book_a, 3, mixed, 20, 3, 10);
+    refuses_burst("refusal 10: answers of 22", book_a, 3, mixed, 22, 3, 10);
+    refuses_burst("refusal 10: answers of 7", book_a, 3, mixed, 7, 3, 10);
+    refuses_burst("refusal 10: no answers", book_a, 3, mixed, 0, 3, 10);
+    refuses_burst("refusal 10: a list of 2", book_a, 3, mixed, 21, 2, 10);
+    refuses_burst("refusal 10: a list of 4", book_a, 3, mixed, 21, 4, 10);
+    refuses_burst("refusal 10: a list of 9, which is the bytes of 3", book_a, 3, mixed, 21, 9, 10);
+    refuses_burst("refusal 10: no list", book_a, 3, mixed, 21, 0, 10);
+    refuses_burst("refusal 11: a symbol 2", book_a, 3, bad, 21, 3, 11);
+    refuses_burst("refusal 11: a symbol 4", book_b, 2, "41" "12" "10", 6, 2, 11);
+    /* Of two the first in the table. */
+    refuses_burst("refusals 9, 10 and 11", book_a, 2, bad, 21, 3, 9);
+    refuses_burst("refusals 9 and 10", book_a, 3, "1101000", 7, 1, 9);
+    refuses_burst("refusals 10 and 11", book_a, 3, bad, 20, 3, 10);
+    refuses_burst("refusals 10 and 11", book_a, 3, bad, 21, 2, 10);
+}
+
+/* Lengths that are the right ones and 2^32 more. The room can be read, and takes no memory before that; it cannot be written, which a refused call
+ * does not do. */
+static void test_lengths_of_33_digits(void)
+{
+    const size_t more = (size_t)1 << 32, room_len = 3 * (more + 1);
+    struct shiftsum_record record = {0, 0, 0};
+    uint8_t word[WORD_A] = {0}, answer[WORD_A], *room;
+    void *const mapped = mmap(NULL, room_len, PROT_READ, MAP_PRIVATE | MAP_ANONYMOUS | MAP_NORESERVE, -1, 0);
+    if (mapped == MAP_FAILED) {
+        failed++;
+        printf("failed: no room of %lu bytes\n", (unsigned long)room_len);
+        return;
+    }
+    room = (uint8_t *)mapped;
+    fflush(stdout); /* A write to the room ends the run. */
+    expect_number("2^32 more", "the result for an input", shiftsum_burst(book_a, BOOK, 1, room, more + WORD_A, answer, WORD_A, &record, 1), 9);
+    expect_number("2^32 more", "the result for answers", shiftsum_burst(book_a, BOOK, 1, word, WORD_A, room, more + WORD_A, &record, 1), 10);
+    expect_number("2^32 more", "the result for a list",
+                  shiftsum_burst(book_a, BOOK, 1, word, WORD_A, answer, WORD_A, (struct shiftsum_record *)mapped, more + 1), 10);
+    munmap(mapped, room_len);
 }
 
 /* The longest words of each form, over every field that they can have. */
@@ -544,6 +695,33 @@ static void test_largest(const struct shape *shape)
     call(is, shiftsum_remainder, book, len, received, n, NULL, 1, 11);
     call(is, shiftsum_decode, book, len, received, n - 1, NULL, n, 9);
     call(is, shiftsum_decode, book, len, received, n, NULL, n - 1, 10);
+}
+
+/* As many words as there may be, every second one with an error, each at another place. */
+static void test_largest_burst(const struct shape *shape)
+{
+    static uint8_t received[LARGEST_BURST], answers[LARGEST_BURST];
+    uint8_t book[LONG_BOOK], message[LARGEST - 1], word[LARGEST];
+    const size_t len = make_sums(book, shape), n = shape->n, all = WORDS * n;
+    struct shiftsum_record records[WORDS];
+    const struct burst burst = {book, len, WORDS, received, all, answers, all, records, WORDS};
+    const struct burst refused_burst = {book, len, WORDS, received, all, NULL, all, NULL, WORDS};
+    size_t m, j;
+    for (m = 0; m < WORDS; m++) {
+        const uint8_t error = m % 2 == 0 ? shape->error : 0;
+        put_word(word, message, shape, 1 + m * (n - 2) / WORDS);
+        for (j = 0; j < n; j++) {
+            const uint8_t symbol = (uint8_t)(word[j] ^ (j == m ? error : 0));
+            received[j * WORDS + m] = symbol;
+            answers[m * n + j] = symbol ^ error;
+        }
+        records[m].kind = error == 0 ? SHIFTSUM_CLEAN : SHIFTSUM_MENDED;
+        records[m].rounds = error != 0;
+        records[m].changed = (uint8_t)(error == 0 ? 0 : n);
+    }
+    call_burst(shape->name, burst, 0);
+    received[all - 1] = (uint8_t)(1u << shape->p);
+    call_burst(shape->name, refused_burst, 11);
 }
 
 /* The longest remainder: x^(n - 1) is the sum of the powers below it. */
@@ -665,18 +843,22 @@ int main(void)
     test_cases();
     test_short_messages();
     test_remainder();
+    test_burst();
     test_refused_codebooks();
     test_alike_dual_words();
     test_refused_calls();
     test_refused_lengths();
+    test_refused_bursts();
     for (i = 0; i < sizeof shapes / sizeof shapes[0]; i++) {
         test_every_length(&shapes[i]);
         test_largest(&shapes[i]);
+        test_largest_burst(&shapes[i]);
         test_longest_remainder(&shapes[i]);
         test_longest_book(&shapes[i]);
     }
     test_forms();
     test_refused_long_codebooks();
+    test_lengths_of_33_digits();
     printf("%lu passed, %lu failed\n", passed, failed);
     return failed == 0 ? 0 : 1;
 }

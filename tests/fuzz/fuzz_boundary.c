@@ -1,9 +1,10 @@
 /*
  * The functions of the library on any bytes, against the second implementation: a target for libFuzzer.
  *
- * An input makes one codebook, a message, a received word and the sizes of the outputs, and all functions are called with them; decode again with a
- * few errors more where the word was not refused, and code, where the input asks for it, with messages of every length from 0 to k + 1. So that most
- * calls get past the codebook's refusals, an input mostly names an accepted codebook of a shelf and a few edits; it can give all bytes as well.
+ * An input makes one codebook, a message, a received word, a burst of words and the sizes of the outputs, and all functions are called with them;
+ * decode again with a few errors more where the word was not refused, and code, where the input asks for it, with messages of every length from 0 to
+ * k + 1. So that most calls get past the codebook's refusals, an input mostly names an accepted codebook of a shelf and a few edits; it can give all
+ * bytes as well. A burst is held to decodes of its words, which are unmixed here.
  *
  * The archive is not made for the sanitizer, which therefore sees nothing of what happens in it. So every buffer lies in pages of its own between
  * pages that may not be touched, at one end of them, and the rest of the pages is filled: reading or writing beyond that end stops the program, and
@@ -44,8 +45,12 @@ enum { IN_SHORT, IN_LONG, FORMS };
 /* A round adds so many places at a step, and the last ones singly. */
 enum { EIGHT = 8, PACKED = 0, SINGLE, SUMS };
 
-/* A decode that takes more products of symbols than this is left out: the second implementation is slow. */
+/* A decode that takes more products of symbols than this is left out, and of a burst so many words are damaged that it takes no more: the second
+ * implementation is slow. */
 enum { MOST_PRODUCTS = 400000 };
+
+/* A burst has so many words at most; with more, up to so many, it is made and must be refused. */
+enum { MOST_WORDS = SHIFTSUM_BURST_MAX, WORDS_MADE = 2 * MOST_WORDS, RECORD = sizeof(struct shiftsum_record) };
 
 struct bytes {
     uint8_t at[MOST_BOOK];
@@ -431,9 +436,9 @@ static void make_symbols(struct bytes *symbols, size_t len, unsigned q, unsigned
 }
 
 /* Mostly a code word with some errors, then symbols of any sort. */
-static void make_word(struct bytes *word, const struct bytes *book, struct shape shape, const struct bytes *message, struct input *input)
+static void make_word(struct bytes *word, const struct bytes *book, struct shape shape, const struct bytes *message, unsigned choice,
+                      struct input *input)
 {
-    const unsigned choice = next(input);
     unsigned errors = choice / 8 % 8;
     word->len = shape.n;
     if (choice % 8 >= 6 || reference_code(book->at, book->len, message->at, message->len, word->at, word->len) != 0)
@@ -447,6 +452,74 @@ static void make_word(struct bytes *word, const struct bytes *book, struct shape
         word->at[any(input) % shape.n] |= (uint8_t)shape.q;
 }
 
+/* --- A burst of an input. --- */
+
+/* M, how many words are made, and the lengths. */
+struct burst {
+    uint32_t words;
+    size_t made, received, answers, records;
+};
+
+/* Mostly 1 to 16; else 0, up to 32, or a number with 1 to 16 in its lowest byte, or in its two lowest. */
+static uint32_t burst_words(struct input *input)
+{
+    const uint8_t choice = next(input), high = next(input);
+    const uint32_t words = 1 + choice % MOST_WORDS;
+    switch (choice / 16) {
+    case 11:
+        return MOST_WORDS;
+    case 12:
+        return 0;
+    case 13:
+        return MOST_WORDS + words;
+    case 14:
+        return words + 256 * (1 + (uint32_t)high);
+    case 15:
+        return words + 0x01010000u * (high | 1);
+    default:
+        return words;
+    }
+}
+
+static struct burst burst_sizes(size_t n, struct input *input)
+{
+    struct burst burst;
+    burst.words = burst_words(input);
+    burst.made = burst.words <= WORDS_MADE ? burst.words : 1 + (burst.words - 1) % MOST_WORDS;
+    burst.received = size(n * burst.made, input);
+    burst.answers = size(n * burst.made, input);
+    burst.records = size(burst.made, input);
+    burst.received = burst.received < MOST_BOOK ? burst.received : MOST_BOOK;
+    burst.answers = burst.answers < MOST_BOOK ? burst.answers : MOST_BOOK;
+    return burst;
+}
+
+/* Mostly code words, mixed, some of them damaged, and now and then one symbol of q or more; then symbols of any sort. */
+static void make_burst(struct bytes *mixed, const struct bytes *book, struct shape shape, size_t words, struct input *input)
+{
+    static struct bytes message, word;
+    const unsigned long damaged = MOST_PRODUCTS / (1 + products(book, shape));
+    const size_t first = draw(input);
+    const unsigned sort = any(input);
+    size_t m, place;
+    mixed->len = shape.n * words;
+    if (sort % 8 == 7 && words <= damaged) {
+        make_symbols(mixed, mixed->len, shape.q, sort / 8, input);
+        return;
+    }
+    for (m = 0; m < words; m++) {
+        const unsigned choice = any(input) % 96; /* no symbol of q or more */
+        make_symbols(&message, shape.k, shape.q, 0, input);
+        make_word(&word, book, shape, &message, (m + first) % words < damaged ? choice : 0, input);
+        for (place = 0; place < shape.n; place++)
+            mixed->at[place * words + m] = word.at[place];
+    }
+    place = draw(input);
+    place = 256 * place + draw(input);
+    if (sort % 8 == 6 && words > 0)
+        mixed->at[place % mixed->len] |= (uint8_t)shape.q;
+}
+
 /* --- Buffers between pages that may not be touched. --- */
 
 struct area {
@@ -456,7 +529,7 @@ struct area {
     size_t len;
 };
 
-static struct area book_area, input_area, output_area;
+static struct area book_area, input_area, output_area, list_area;
 
 static void stop(const char *why)
 {
@@ -507,19 +580,69 @@ static uint32_t expected_check(const uint8_t *book, size_t book_len, const uint8
     return reference_check(book, book_len);
 }
 
-enum { CHECK, CODE, READ, REMAINDER, DECODE, FUNCTIONS };
+/* What the result of a decode says. */
+static void put_record(struct shiftsum_record *to, uint32_t result)
+{
+    to->kind = (uint8_t)SHIFTSUM_KIND(result);
+    to->rounds = (uint8_t)SHIFTSUM_ROUNDS(result);
+    to->changed = (uint8_t)SHIFTSUM_CHANGED(result);
+}
+
+/* Burst in the form of the others: M and the list stand beside. */
+static uint32_t words_given;
+
+static uint32_t library_burst(const uint8_t *book, size_t book_len, const uint8_t *input, size_t input_len, uint8_t *output, size_t output_len)
+{
+    struct shiftsum_record *list = (struct shiftsum_record *)list_area.buffer;
+    return shiftsum_burst(book, book_len, words_given, input, input_len, output, output_len, list, list_area.len / RECORD);
+}
+
+/* By what the second implementation says of the codebook and of each word. */
+static uint32_t expected_burst(const uint8_t *book, size_t book_len, const uint8_t *input, size_t input_len, uint8_t *output, size_t output_len)
+{
+    struct shiftsum_record *list = (struct shiftsum_record *)(list_area.image + (list_area.buffer - list_area.pages));
+    const uint32_t checked = reference_check(book, book_len);
+    uint8_t word[LARGEST];
+    size_t n, m, place;
+    if (SHIFTSUM_REFUSAL(checked) != 0)
+        return checked;
+    if (words_given < 1 || words_given > MOST_WORDS)
+        return 14;
+    n = ((size_t)1 << book[AT_S]) - 1;
+    if (input_len != n * words_given)
+        return 9;
+    if (output_len != n * words_given || list_area.len != RECORD * words_given)
+        return 10;
+    for (place = 0; place < input_len; place++)
+        if (input[place] >> book[AT_P] != 0)
+            return 11;
+    for (m = 0; m < words_given; m++) {
+        for (place = 0; place < n; place++)
+            word[place] = input[place * words_given + m];
+        put_record(&list[m], reference_decode(book, book_len, word, n, output + m * n, n));
+    }
+    return 0;
+}
+
+enum { CHECK, CODE, READ, REMAINDER, DECODE, BURST, FUNCTIONS };
 
 static const struct {
     const char *name;
     function library, reference;
-    unsigned refusals; /* the largest number that it can return */
+    unsigned refusals; /* the largest number that it can return, 14 aside */
 } functions[FUNCTIONS] = {
     {"check", library_check, expected_check, 8},
     {"code", shiftsum_code, reference_code, 11},
     {"read", shiftsum_read, reference_read, 12},
     {"remainder", shiftsum_remainder, reference_remainder, 11},
     {"decode", shiftsum_decode, reference_decode, 11},
+    {"burst", library_burst, expected_burst, 11},
 };
+
+static int can_refuse(int which, unsigned number)
+{
+    return number <= functions[which].refusals || (which == BURST && number == 14);
+}
 
 static void print_bytes(const char *what, const uint8_t *bytes, size_t len)
 {
@@ -642,6 +765,54 @@ __attribute__((no_sanitize("address"))) static uint32_t faulty_code(const char *
     return result;
 }
 
+/* The faults that a burst could have by its result alone; the codebook is accepted. */
+static uint32_t faulty_refusal(const char *fault, uint32_t result)
+{
+    const struct shape shape = shape_of(lent_book());
+    const uint32_t low = words_given & 255;
+    size_t place = 0;
+    while (place < shape.n && place < input_area.len && input_area.buffer[place] < shape.q)
+        place++;
+    if (strcmp(fault, "sixteen") == 0 && words_given == MOST_WORDS)
+        return 14;
+    if (strcmp(fault, "byte") == 0 && result == 14 && low != words_given && low >= 1 && low <= MOST_WORDS)
+        return input_area.len == shape.n * low ? 0 : 9;
+    if (strcmp(fault, "order") == 0 && result == 14 && input_area.len != shape.n * words_given)
+        return 9;
+    if (strcmp(fault, "list") == 0 && result == 10 && output_area.len == shape.n * words_given)
+        return 0;
+    if (strcmp(fault, "first") == 0 && result == 11 && place == shape.n)
+        return 0;
+    return result;
+}
+
+/* The faults that a burst could have, made of a right one; the codebook is accepted. */
+__attribute__((no_sanitize("address"))) static uint32_t faulty_burst(const char *fault, uint32_t result)
+{
+    volatile uint8_t *output = output_area.buffer, *list = list_area.buffer;
+    const size_t n = shape_of(lent_book()).n;
+    uint8_t answers[MOST_WORDS * LARGEST];
+    struct shiftsum_record records[MOST_WORDS];
+    const size_t apart = strcmp(fault, "padded") == 0 ? RECORD + 1 : RECORD;
+    size_t m, to, place;
+    if (strcmp(fault, "torn") == 0 && result == 11)
+        list[0] = list[0];
+    if (result != 0)
+        return faulty_refusal(fault, result);
+    memcpy(answers, output_area.buffer, output_area.len);
+    memcpy(records, list_area.buffer, list_area.len);
+    for (m = 0; m < words_given; m++) {
+        if (strcmp(fault, "row") == 0)
+            put_record(&records[m], reference_decode(book_area.buffer, book_area.len, input_area.buffer + m * n, n, answers + m * n, n));
+        for (place = 0; place < n; place++)
+            output[strcmp(fault, "mixed") == 0 ? place * words_given + m : m * n + place] = answers[m * n + place];
+        to = strcmp(fault, "reverse") == 0 ? words_given - 1 - m : m;
+        for (place = 0; place < RECORD; place++)
+            list[apart * to + place] = ((const uint8_t *)&records[m])[place];
+    }
+    return faulty_refusal(fault, result);
+}
+
 /* The faults that condition 8 could have, made of a right result. */
 static uint32_t faulty_copies(const char *fault, uint32_t result)
 {
@@ -688,8 +859,8 @@ __attribute__((no_sanitize("address"))) static uint32_t faulty(int which, uint32
         return result;
     if (which == REMAINDER)
         return faulty_remainder(fault, result);
-    if (which == CODE)
-        return result == 0 || result > 8 ? faulty_code(fault, result) : result;
+    if (which == CODE || which == BURST)
+        return result >= 1 && result <= 8 ? result : (which == CODE ? faulty_code : faulty_burst)(fault, result);
     if (which == CHECK)
         result = faulty_copies(fault, faulty_forms(fault, result));
     if (strcmp(fault, "refusal") == 0 && which == CHECK && result == 7)
@@ -728,12 +899,16 @@ __attribute__((no_sanitize("address"))) static uint32_t faulty(int which, uint32
 /* Where k is 1, one symbol is not short. */
 enum { LENGTH_0, K_IS_1, ONE_SYMBOL, SHORT, FULL, K_AND_1, ABOVE, LENGTHS };
 
-/* By the form that byte 3 chooses: how many calls of each function had each result, for decode the kinds; those of decode that took two rounds or
- * more; those of check with result 8 by the copy that the codebook had; and those of code with an accepted codebook by the length of the message;
- * mended words by whether a packed place was changed, and a single one. */
+/* Bursts: refused for M 0, for M a little above 16, for one that has 1 to 16 in its lowest byte; for the size of the answers alone, and of the list;
+ * for a symbol behind the first n; of one word, of 16; with words of several kinds. */
+enum { NO_WORD, ABOVE_16, LOW_BYTE, ANSWERS, LIST, BEHIND, ONE_WORD, SIXTEEN, SEVERAL_KINDS, BURSTS };
+
+/* By the form that byte 3 chooses: how many calls of each function had each result, for decode and the words of bursts the kinds; those of decode
+ * that took two rounds or more; those of check with result 8 by the copy that the codebook had; and those of code with an accepted codebook by the
+ * length of the message; mended words by whether a packed place was changed, and a single one; bursts of each sort. */
 static struct counts {
-    unsigned long calls[FUNCTIONS], accepted[FUNCTIONS], refused[FUNCTIONS][256], kinds[128], later[128], copies[UNLIKE + 1];
-    unsigned long lengths[LENGTHS][256], every_length, sums[SUMS];
+    unsigned long calls[FUNCTIONS], accepted[FUNCTIONS], refused[FUNCTIONS][256], kinds[FUNCTIONS][128], later[128], copies[UNLIKE + 1];
+    unsigned long lengths[LENGTHS][256], every_length, sums[SUMS], bursts[BURSTS];
 } counts[FORMS];
 static unsigned long left_out;
 
@@ -772,12 +947,37 @@ static void count_ways(unsigned number, const struct bytes *book)
         }
 }
 
+/* The sorts that a burst is of. */
+static void count_burst(uint32_t result, const struct bytes *book, struct counts *own)
+{
+    const struct shape shape = shape_of(book);
+    const uint32_t words = words_given, low = words & 255;
+    size_t at = 0, unlike = 0;
+    while (at < shape.n && at < input_area.len && input_area.buffer[at] < shape.q)
+        at++;
+    own->bursts[NO_WORD] += result == 14 && words == 0;
+    own->bursts[ABOVE_16] += result == 14 && words > MOST_WORDS && words <= WORDS_MADE;
+    own->bursts[LOW_BYTE] += result == 14 && words > 255 && low >= 1 && low <= MOST_WORDS;
+    own->bursts[ANSWERS] += result == 10 && list_area.len == RECORD * words;
+    own->bursts[LIST] += result == 10 && output_area.len == shape.n * words;
+    own->bursts[BEHIND] += result == 11 && at == shape.n;
+    own->bursts[ONE_WORD] += result == 0 && words == 1;
+    own->bursts[SIXTEEN] += result == 0 && words == MOST_WORDS;
+    for (at = 0; result == 0 && at < words; at++) {
+        own->kinds[BURST][list_area.buffer[RECORD * at] % 128]++;
+        unlike += list_area.buffer[RECORD * at] != list_area.buffer[0];
+    }
+    own->bursts[SEVERAL_KINDS] += unlike > 0;
+}
+
 static void count(int which, uint32_t result, const struct bytes *book)
 {
     const unsigned number = SHIFTSUM_REFUSAL(result), kind = result >> 24 & 127;
     struct counts *own = &counts[which_form(book)];
     unsigned mark = (unsigned)which;
     own->calls[which]++;
+    if (which == BURST)
+        count_burst(result, book, own);
     if (number != 0) {
         own->refused[which][number]++;
         seen[mark * 16 + number % 16] = 1;
@@ -791,13 +991,15 @@ static void count(int which, uint32_t result, const struct bytes *book)
     mark = mark * 64 + book->at[AT_S] % 8 * 8 + book->at[AT_P] % 8;
     if (which == DECODE) {
         unsigned rounds = SHIFTSUM_ROUNDS(result), changed = SHIFTSUM_CHANGED(result);
-        own->kinds[kind]++;
+        own->kinds[which][kind]++;
         if (rounds > 1)
             own->later[kind]++;
         mark = mark * 4 + kind % 4;
         mark = mark * 4 + (rounds < 4 ? rounds : 3);
         mark = mark * 4 + (changed < 4 ? changed : 3);
     }
+    if (which == BURST)
+        mark = mark * 64 + (words_given - 1) % MOST_WORDS * 4 + list_area.buffer[0] % 4;
     seen[16 * FUNCTIONS + mark % (SEEN - 16 * FUNCTIONS)] = 1;
 }
 
@@ -818,11 +1020,26 @@ static void differs(int which, const char *what, uint32_t result, uint32_t expec
     print_bytes("library's output", output_area.buffer, output_area.len);
     print_bytes("expected output", image, output_area.len);
     print_bytes("output before the call", held->at, held->len);
+    if (which == BURST) {
+        fprintf(stderr, "words %lu\n", (unsigned long)words_given);
+        print_bytes("library's list", list_area.buffer, list_area.len);
+        print_bytes("expected list", list_area.image + (list_area.buffer - list_area.pages), list_area.len);
+    }
     print_bytes("input", input->at, input->len);
     print_bytes("codebook", book->at, book->len);
     abort();
 }
 
+/* What of a burst's list is not as expected, if anything. */
+static const char *list_differs(void)
+{
+    const uint8_t *image = list_area.image + (list_area.buffer - list_area.pages);
+    if (memcmp(list_area.buffer, image, list_area.len) != 0)
+        return "the records";
+    return memcmp(list_area.pages, list_area.image, ROOM) != 0 ? "what lies beside the records" : NULL;
+}
+
+/* The list of a burst is laid out before. */
 static uint32_t compare(int which, const struct bytes *book, const struct bytes *input, const struct bytes *held, unsigned places)
 {
     uint8_t *output;
@@ -837,6 +1054,8 @@ static uint32_t compare(int which, const struct bytes *book, const struct bytes 
     allow(&input_area, PROT_READ);
     if (SHIFTSUM_REFUSAL(expected) != 0)
         allow(&output_area, PROT_READ);
+    if (SHIFTSUM_REFUSAL(expected) != 0 && which == BURST)
+        allow(&list_area, PROT_READ);
     result = functions[which].library(book_area.buffer, book->len, input_area.buffer, input->len, output_area.buffer, held->len);
     result = faulty(which, result);
     if (result != expected)
@@ -845,6 +1064,8 @@ static uint32_t compare(int which, const struct bytes *book, const struct bytes 
         differs(which, "the output", result, expected, book, input, held);
     if (memcmp(output_area.pages, output_area.image, ROOM) != 0)
         differs(which, "what lies beside the output", result, expected, book, input, held);
+    if (which == BURST && list_differs() != NULL)
+        differs(which, list_differs(), result, expected, book, input, held);
     if (memcmp(book_area.pages, book_area.image, ROOM) != 0 || memcmp(input_area.pages, input_area.image, ROOM) != 0)
         differs(which, "the codebook or the input after the call", result, expected, book, input, held);
     count(which, result, book);
@@ -931,12 +1152,31 @@ static void decode_some(const struct bytes *book, struct bytes *word, const stru
     }
 }
 
+/* Decodes a burst. The symbols of one with a refused codebook are drawn. */
+static void decode_burst(const struct bytes *book, int accepted, const struct burst *burst, uint8_t first, unsigned places, struct input *input)
+{
+    static struct bytes mixed, held;
+    const struct shape shape = shape_of(book);
+    if (accepted)
+        make_burst(&mixed, book, shape, burst->made, input);
+    else
+        make_symbols(&mixed, shape.n * burst->made, shape.q, 0, input);
+    resize(&mixed, burst->received, input);
+    words_given = burst->words;
+    hold(&held, RECORD * burst->records, first);
+    lay(&list_area, held.at, held.len, places & 8);
+    hold(&held, burst->answers, first);
+    compare(BURST, book, &mixed, &held, places);
+}
+
 int LLVMFuzzerTestOneInput(const uint8_t *data, size_t len)
 {
     static struct bytes book, message, word, held;
     struct input input = {data, len, 0};
     struct shape shape;
+    struct burst burst;
     unsigned places, every;
+    int accepted;
     uint8_t first;
     make_book(&book, &input);
     shape = shape_of(&book);
@@ -946,15 +1186,16 @@ int LLVMFuzzerTestOneInput(const uint8_t *data, size_t len)
     const size_t message_len = message_size(shape.k, &input), word_len = size(shape.n, &input);
     const size_t coded_len = size(shape.n, &input), read_len = size(shape.k, &input), answer_len = size(shape.n, &input);
     const size_t rest_len = size(shape.n - shape.k, &input);
+    burst = burst_sizes(shape.n, &input);
     every = next(&input);
     input.drawn = (uint32_t)next_two(&input);
     make_symbols(&message, shape.k, shape.q, next(&input), &input);
-    make_word(&word, &book, shape, &message, &input);
+    make_word(&word, &book, shape, &message, next(&input), &input);
     resize(&message, message_len, &input);
     resize(&word, word_len, &input);
 
     hold(&held, 0, 0);
-    compare(CHECK, &book, &held, &held, places);
+    accepted = SHIFTSUM_REFUSAL(compare(CHECK, &book, &held, &held, places)) == 0;
     hold(&held, coded_len, first);
     code_and_read(&book, &message, &held, places);
     if (every == EVERY)
@@ -965,6 +1206,7 @@ int LLVMFuzzerTestOneInput(const uint8_t *data, size_t len)
     compare(REMAINDER, &book, &word, &held, places >> 4);
     hold(&held, answer_len, first);
     decode_some(&book, &word, &held, places >> 5, &input);
+    decode_burst(&book, accepted, &burst, first, places >> 2, &input);
     return 0;
 }
 
@@ -972,7 +1214,7 @@ int LLVMFuzzerTestOneInput(const uint8_t *data, size_t len)
 static void print_lengths(const char *form, const struct counts *own)
 {
     static const char *const names[LENGTHS] = {"length-0", "k-is-1", "one-symbol", "short", "full", "k+1", "above-k+1"};
-    static const unsigned numbers[] = {0, 10, 11};
+    static const unsigned results[] = {0, 10, 11};
     size_t i;
     int sort;
     printf("%slengths every-length %lu", form, own->every_length);
@@ -980,26 +1222,41 @@ static void print_lengths(const char *form, const struct counts *own)
         if (sort == LENGTH_0 || sort == K_AND_1 || sort == ABOVE)
             printf(" %s:9 %lu", names[sort], own->lengths[sort][9]);
         else
-            for (i = 0; i < sizeof numbers / sizeof numbers[0]; i++)
-                printf(" %s:%u %lu", names[sort], numbers[i], own->lengths[sort][numbers[i]]);
+            for (i = 0; i < sizeof results / sizeof results[0]; i++)
+                printf(" %s:%u %lu", names[sort], results[i], own->lengths[sort][results[i]]);
     printf("\n");
 }
+
+/* How many bursts were of each sort. */
+static void print_bursts(const char *form, const struct counts *own)
+{
+    static const char *const names[BURSTS] = {"no-word:14", "17-to-32:14", "1-to-16-in-a-byte:14", "answers:10", "list:10", "behind-the-first-n:11",
+                                              "one-word", "16-words", "several-kinds"};
+    int sort;
+    printf("%sbursts", form);
+    for (sort = 0; sort < BURSTS; sort++)
+        printf(" %s %lu", names[sort], own->bursts[sort]);
+    printf("\n");
+}
+
+/* The numbers of the table's columns: 13 is met by no function here. */
+static const unsigned numbers[] = {1, 2, 3, 4, 5, 6, 7, 8, 9, 10, 11, 12, 14};
+enum { NUMBERS = sizeof numbers / sizeof numbers[0] };
 
 /* A line of the table: a dash where a function has no such result. */
 static void print_function(const char *form, const struct counts *own, int which)
 {
     static const char letters[] = "CMSX";
     int column;
-    unsigned number;
     printf("%5s%-9s %9lu %9lu", form, functions[which].name, own->calls[which], own->accepted[which]);
     for (column = 0; column < 4; column++)
-        if (which == DECODE)
-            printf(" %7lu", own->kinds[(unsigned)letters[column]]);
+        if (which == DECODE || which == BURST)
+            printf(" %7lu", own->kinds[which][(unsigned)letters[column]]);
         else
             printf(" %7s", "-");
-    for (number = 1; number <= 12; number++)
-        if (number <= functions[which].refusals)
-            printf(" %6lu", own->refused[which][number]);
+    for (column = 0; column < NUMBERS; column++)
+        if (can_refuse(which, numbers[column]))
+            printf(" %6lu", own->refused[which][numbers[column]]);
         else
             printf(" %6s", "-");
     printf("\n");
@@ -1016,6 +1273,7 @@ static void print_form(const char *form, const struct counts *own)
     printf("%scopies equal %lu turned %lu turned-and-scaled %lu\n", form, copies[EQUAL], copies[TURNED], copies[TURNED_AND_SCALED]);
     printf("%ssums packed %lu single %lu\n", form, own->sums[PACKED], own->sums[SINGLE]);
     print_lengths(form, own);
+    print_bursts(form, own);
 }
 
 /* The counts in tables, which the script reads. */
@@ -1027,8 +1285,8 @@ static void print_counts(void)
     unsigned long all = 0;
     int way, which;
     printf("%5s%-9s %9s %9s %7s %7s %7s %7s", "", "result", "calls", "accepted", "C", "M", "S", "X");
-    for (which = 1; which <= 12; which++)
-        printf(" %6d", which);
+    for (which = 0; which < NUMBERS; which++)
+        printf(" %6u", numbers[which]);
     printf("\n");
     print_form("", &counts[IN_SHORT]);
     print_form("long-", &counts[IN_LONG]);
@@ -1057,16 +1315,19 @@ static void write_input(const char *folder, size_t number, const struct bytes *p
         stop(name);
 }
 
-/* An input to start from, with the codebook's edits: the exact sizes, a message of every length or not, and a code word with none to four errors. */
+/* An input to start from, with the codebook's edits: the exact sizes, every sort of M by turns, a message of every length or not, and a code word
+ * with none to four errors. */
 static void write_seed(const char *folder, size_t number, const struct bytes *book, const struct bytes *edits, int every)
 {
     static struct bytes parts[3];
     const uint8_t drawn = (uint8_t)(number / SEEDS_EACH);
-    const uint8_t rest[] = {drawn, drawn, 0, 0, 0, 0, 0, 0, (uint8_t)(every ? EVERY : 0), drawn, 1, 0, (uint8_t)(drawn % 5 * 8)};
+    const uint8_t sizes[] = {drawn, drawn, 0, 0, 0, 0, 0, 0, (uint8_t)(17 * number), drawn, 0, 0, 0};
+    const uint8_t rest[] = {(uint8_t)(every ? EVERY : 0), drawn, 1, 0, (uint8_t)(drawn % 5 * 8)};
     parts[0] = *book;
     parts[1] = *edits;
-    memcpy(parts[2].at, rest, sizeof rest);
-    parts[2].len = sizeof rest;
+    parts[2].len = 0;
+    append(&parts[2], sizes, sizeof sizes);
+    append(&parts[2], rest, sizeof rest);
     write_input(folder, number, parts, 3);
 }
 
@@ -1111,6 +1372,7 @@ int LLVMFuzzerInitialize(int *argc, char ***argv)
     make_area(&book_area);
     make_area(&input_area);
     make_area(&output_area);
+    make_area(&list_area);
     atexit(print_counts);
     return 0;
 }

@@ -19,6 +19,7 @@
 
 enum { DUAL_WORDS = 32, BELOW = 1 << 16, STACK = 1 << 20, PATTERN = 0xa5 };
 enum { AT_S = 1, AT_P = 2, AT_G = 4 };
+enum { WORDS = SHIFTSUM_BURST_MAX + 1 }; /* one word more than a burst may have */
 
 struct book {
     uint8_t bytes[SHIFTSUM_BOOK_MAX];
@@ -44,13 +45,22 @@ struct call {
     uint32_t result;
 };
 
-static uint8_t input[SHIFTSUM_WORD_MAX], output[SHIFTSUM_WORD_MAX];
+static uint8_t input[WORDS * SHIFTSUM_WORD_MAX], output[WORDS * SHIFTSUM_WORD_MAX];
+static struct shiftsum_record records[WORDS];
 static unsigned long passed, failed;
 
 static uint32_t check(const uint8_t *book, size_t book_len, const uint8_t *in, size_t in_len, uint8_t *out, size_t out_len)
 {
     (void)in, (void)in_len, (void)out, (void)out_len;
     return shiftsum_check(book, book_len);
+}
+
+/* As many words as fill the input. The result has the rounds of the last one, as decode's has them; the stack that this takes itself is counted. */
+static uint32_t burst(const uint8_t *book, size_t book_len, const uint8_t *in, size_t in_len, uint8_t *out, size_t out_len)
+{
+    const size_t n = ((size_t)1 << book[AT_S]) - 1, words = in_len / n;
+    const uint32_t result = shiftsum_burst(book, book_len, (uint32_t)words, in, in_len, out, out_len, records, words);
+    return result != 0 ? result : (uint32_t)records[words - 1].rounds << 16;
 }
 
 static uint32_t nothing(const uint8_t *book, size_t book_len, const uint8_t *in, size_t in_len, uint8_t *out, size_t out_len)
@@ -227,7 +237,7 @@ static void make_run(struct book *book, const struct form *form, unsigned s, uns
 /* Every function on a large codebook, on one that is refused late, and on one that takes all rounds. */
 static void test_all(const struct book *large, const struct book *late, const struct book *run_long)
 {
-    const size_t n = large->n, k = large->k;
+    const size_t n = large->n, k = large->k, most = SHIFTSUM_BURST_MAX;
     memset(input, 0, sizeof input);
     input[0] = 1;
     test((struct call){"check", check, large, 0, 0, 0, 0, 0});
@@ -242,6 +252,16 @@ static void test_all(const struct book *large, const struct book *late, const st
     test((struct call){"decode, 32 dual words", shiftsum_decode, large, n, n, 0, 1, 0});
     test((struct call){"decode, refused by 8", shiftsum_decode, late, n, n, 8, 0, 0});
     test((struct call){"decode, 63 rounds", shiftsum_decode, run_long, run_long->n, run_long->n, 0, 63, 0});
+    /* An error in every word. */
+    memset(input, 1, most);
+    test((struct call){"burst of 16, 32 dual words", burst, large, most * n, most * n, 0, 1, 0});
+    test((struct call){"burst of 16, refused by 8", burst, late, most * n, most * n, 8, 0, 0});
+    test((struct call){"burst of 17, refused by 14", burst, large, WORDS * n, WORDS * n, 14, 0, 0});
+    test((struct call){"burst of 16, refused by 10", burst, large, most * n, most * n - 1, 10, 0, 0});
+    test((struct call){"burst of 16, 63 rounds", burst, run_long, most * run_long->n, most * run_long->n, 0, 63, 0});
+    memset(input, 0, sizeof input);
+    input[0] = 1;
+    test((struct call){"burst of 1, 32 dual words", burst, large, n, n, 0, 1, 0});
 }
 
 int main(void)
@@ -269,6 +289,7 @@ int main(void)
             test((struct call){"check, stored", check, &large, 0, 0, 0, 0, 0});
             test((struct call){"read, stored, refused by 12", shiftsum_read, &large, large.n, large.k, 12, 0, 0});
             test((struct call){"decode, stored", shiftsum_decode, &large, large.n, large.n, 0, 1, 0});
+            test((struct call){"burst, stored", burst, &large, large.n, large.n, 0, 1, 0});
         }
     printf("%lu passed, %lu failed\n", passed, failed);
     return failed == 0 ? 0 : 1;

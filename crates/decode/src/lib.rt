@@ -119,7 +119,7 @@ pub fn decode_short(book: &[u8], received: &[u8], answer: &mut [u8], entries: &m
 }
 
 // Room for the table of a long book with few symbols.
-fn long_few_table_room() -> [u8; LONG_FEW_TABLE]
+pub fn long_few_table_room() -> [u8; LONG_FEW_TABLE]
     ensures { λ r. ⌜ 4096 ≡ length r ⌝ }
 {
     [0; LONG_FEW_TABLE]

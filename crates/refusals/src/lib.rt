@@ -1,11 +1,18 @@
-// The refusals 9 to 11, which every operation on a book has, and the answer of an operation that writes one buffer.
+// The refusals 9 to 11, which every operation on a book has, the test for 14, and the answer of an operation that writes one buffer.
 ghost use mathlib.Core.Path.{_≡_};
-ghost use Rattle.spec_book.specs.Conditions.{messageFits, inputOk, inputRefusal};
+ghost use Rattle.spec_book.specs.Conditions.{wordsOk, messageFits, inputOk, inputRefusal};
 
 // The buffer is written, or the call is refused with the number of SCOPE 7.
 pub enum Done {
     Made,
     Refused(u8),
+}
+
+// Whether a burst has 1 to 16 words.
+pub fn words_ok(words: u32) -> bool
+    ensures { λ r. ⌜ r ≡ wordsOk words ⌝ }
+{
+    1 <= words && words <= 16
 }
 
 // Whether a message has 1 to k symbols.

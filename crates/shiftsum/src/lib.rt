@@ -1,4 +1,4 @@
-// The C boundary: check, code, read, remainder and decode on numbers and byte slices. A `&[u8]` is a pointer and a length in C. The matrix is a local buffer.
+// The C boundary: check, code, read, remainder, decode and burst on numbers and slices. A `&[u8]` is a pointer and a length in C. The matrix is a local buffer.
 ghost use mathlib.Core.Path.{_≡_};
 ghost use mathlib.Core.Bool.{true, false};
 ghost use mathlib.Core.List.{[]};
@@ -8,12 +8,18 @@ ghost use Rattle.spec_operations.specs.Check.{checkAnswer};
 ghost use Rattle.spec_operations.specs.Coding.{codeRefusal, coded, readRefusal, messageOf};
 ghost use Rattle.spec_operations.specs.Remainder.{remainderRefusal, remainderOf};
 ghost use Rattle.spec_operations.specs.Decoding.{matrixSize, decodeRefusal, decodeBytes, values};
+ghost use Rattle.spec_operations.specs.Burst.{burstRefusal, burstWord, ReturnsBurst};
 ghost use Rattle.spec_operations.specs.Packed.{packed, Returns};
 ghost use Rattle.refusals.specs.Said as done;
 ghost use Rattle.book.specs.Params as checks;
 ghost use Rattle.book.specs.Opened.{fewSymbols};
 ghost use Rattle.decode.specs.Decoded as decodes;
+ghost use Rattle.burst.specs.Said.{listBytes};
+ghost use Rattle.shiftsum.specs.Made.{Made};
 use book::Checked;
+use burst::Burst;
+use burst::Record;
+use burst::record_at;
 use decode::Decoded;
 use refusals::Done;
 use sizes::FEW_MATRIX;
@@ -174,4 +180,94 @@ pub extern "C" fn shiftsum_decode(book: &[u8], received: &[u8], answer: &mut [u8
         return decode_few(book, received, answer);
     }
     decode_short(book, received, answer)
+}
+
+// Decode a burst with a matrix of the exact size, by a short book with few symbols: its records come by value. The rooms are those of decode.
+fn burst_few(book: &[u8], words: u32, received: &[u8], answers: &mut [u8], list: usize) -> Burst
+    requires { ⌜ (fewSymbols (now book) ≡ true) × (isLong (now book) ≡ false) ⌝ }
+    ensures { λ r. ⌜ Made (burstRefusal (now (book .entry)) words (now (received .entry)) (length (now (answers .entry))) list (matrixSize (now (book .entry))))
+        words (burstWord (now (book .entry)) words (now (received .entry))) (now (answers .entry)) r (now (answers .exit)) ⌝ }
+{
+    let size = book::matrix_size(book);
+    let mut room = few_room();
+    burst::burst_short(book, words, received, answers, list, &mut room[..size])
+}
+
+// The same by any short book.
+fn burst_short(book: &[u8], words: u32, received: &[u8], answers: &mut [u8], list: usize) -> Burst
+    requires { ⌜ isLong (now book) ≡ false ⌝ }
+    ensures { λ r. ⌜ Made (burstRefusal (now (book .entry)) words (now (received .entry)) (length (now (answers .entry))) list (matrixSize (now (book .entry))))
+        words (burstWord (now (book .entry)) words (now (received .entry))) (now (answers .entry)) r (now (answers .exit)) ⌝ }
+{
+    let size = book::matrix_size(book);
+    let mut room = matrix_room();
+    burst::burst_short(book, words, received, answers, list, &mut room[..size])
+}
+
+// The same by a long book with few symbols.
+fn burst_long_few(
+    book: &[u8],
+    words: u32,
+    received: &[u8],
+    answers: &mut [u8],
+    list: usize,
+) -> Burst
+    requires { ⌜ fewSymbols (now book) ≡ true ⌝ }
+    ensures { λ r. ⌜ Made (burstRefusal (now (book .entry)) words (now (received .entry)) (length (now (answers .entry))) list (matrixSize (now (book .entry))))
+        words (burstWord (now (book .entry)) words (now (received .entry))) (now (answers .entry)) r (now (answers .exit)) ⌝ }
+{
+    let size = book::matrix_size(book);
+    let mut room = long_few_room();
+    burst::burst_long(book, words, received, answers, list, &mut room[..size])
+}
+
+// The same by any book.
+fn burst_long(book: &[u8], words: u32, received: &[u8], answers: &mut [u8], list: usize) -> Burst
+    ensures { λ r. ⌜ Made (burstRefusal (now (book .entry)) words (now (received .entry)) (length (now (answers .entry))) list (matrixSize (now (book .entry))))
+        words (burstWord (now (book .entry)) words (now (received .entry))) (now (answers .entry)) r (now (answers .exit)) ⌝ }
+{
+    let size = book::matrix_size(book);
+    let mut room = matrix_room();
+    burst::burst_long(book, words, received, answers, list, &mut room[..size])
+}
+
+// The same with the room that the book asks.
+fn burst_made(book: &[u8], words: u32, received: &[u8], answers: &mut [u8], list: usize) -> Burst
+    ensures { λ r. ⌜ Made (burstRefusal (now (book .entry)) words (now (received .entry)) (length (now (answers .entry))) list (matrixSize (now (book .entry))))
+        words (burstWord (now (book .entry)) words (now (received .entry))) (now (answers .entry)) r (now (answers .exit)) ⌝ }
+{
+    let few = book::few_symbols(book);
+    if book_layout::is_long(book) {
+        if few {
+            return burst_long_few(book, words, received, answers, list);
+        }
+        return burst_long(book, words, received, answers, list);
+    }
+    if few {
+        return burst_few(book, words, received, answers, list);
+    }
+    burst_short(book, words, received, answers, list)
+}
+
+// Decode a burst, and write its records into the caller's list. This is the one function over a slice of structs, and its proof is a walk by hand: so all else
+// is done by value before, and where the burst is refused there is no record to write.
+#[no_mangle]
+pub extern "C" fn shiftsum_burst(
+    book: &[u8],
+    words: u32,
+    received: &[u8],
+    answers: &mut [u8],
+    records: &mut [Record],
+) -> u32
+    ensures { λ r. ⌜ ReturnsBurst (burstRefusal (now (book .entry)) words (now (received .entry)) (length (now (answers .entry))) (length (now (records .entry)))
+        (matrixSize (now (book .entry)))) words (burstWord (now (book .entry)) words (now (received .entry))) (now (answers .entry)) (listBytes (now (records .entry))) r
+        (now (answers .exit)) (listBytes (now (records .exit))) ⌝ }
+{
+    let made = burst_made(book, words, received, answers, records.len());
+    let mut m = 0;
+    while m < made.count {
+        records[m] = record_at(made, m);
+        m += 1;
+    }
+    made.number as u32
 }

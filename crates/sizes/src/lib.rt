@@ -40,6 +40,8 @@ pub const GENERATOR_AT: usize = 3;
 pub const DUALS: usize = 32;
 
 pub const BOOK: usize = 8454;
+// The most words of a burst.
+pub const BURST: usize = 16;
 
 // How many blocks a word of n symbols takes.
 pub fn blocks(n: usize) -> usize

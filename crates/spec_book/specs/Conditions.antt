@@ -1,4 +1,4 @@
--- SCOPE 7: The refusals 1 to 12 in their order, each as the test that is passed where it does not apply, and the first number whose test fails.
+-- SCOPE 7: The refusals 1 to 12, and 14 between 8 and 9, in their order, each as the test that is passed where it does not apply, and the first number whose test fails.
 -- (13, the inverse of zero, is of the field alone: spec_field/Operations.)
 -- Assumes nothing.
 use mathlib.Core.Bool.{Bool, not, cond, _&&_, _||_}
@@ -106,7 +106,11 @@ refusal bytes =
 
 -- ---- tests of an operation's input and outputs
 
--- SCOPE 7.9: 9, in code: a message has 1 to k symbols. (Other inputs have n.)
+-- SCOPE 7.19: 14, in burst: there are 1 to 16 words
+unfoldable pub wordsOk : ℕ → Bool
+wordsOk words = leb 1 words && leb words 16
+
+-- SCOPE 7.9: 9, in code: a message has 1 to k symbols. (Other inputs have n, a burst n × M.)
 unfoldable pub messageFits : ℕ → ℕ → Bool
 messageFits k size = leb 1 size && leb size k
 

@@ -1,4 +1,4 @@
--- Cases 1 to 14, the remainders, the words that are alike, the short messages, the forms and the packed numbers, each list proved together of the
+-- Cases 1 to 14, the remainders, the words that are alike, the short messages, the forms, the packed numbers and the bursts, each list proved together of the
 -- definitions, and that the books they use are accepted.
 -- Assumes nothing.
 use mathlib.Core.Path.{refl}
@@ -10,14 +10,16 @@ use Rattle.spec_word.specs.Division.{before, allZero, reduce, remainder, quotie
 use Rattle.spec_word.specs.CyclicCode.{unity, isCode}
 use Rattle.spec_word.specs.Alike.{isMultipleOfTurn, alike}
 use Rattle.spec_word.specs.Lanes.{lane, packed}
+use Rattle.spec_word.specs.Mixed.{mixed, unmixed, joined}
 use Rattle.spec_book.specs.Layout.{width, degreeOf, bookOf}
-use Rattle.spec_book.specs.Conditions.{lengthFits, lengthOk, kindsOk, sizesOk, bodyOk, symbolsOk, generatorOk, limitsOk, dualOk, dualsOk, distinctOk, bookRefusal, refusal, messageFits, inputOk, inputRefusal}
+use Rattle.spec_book.specs.Conditions.{lengthFits, lengthOk, kindsOk, sizesOk, bodyOk, symbolsOk, generatorOk, limitsOk, dualOk, dualsOk, distinctOk, bookRefusal, refusal, wordsOk, messageFits, inputOk, inputRefusal}
 use Rattle.spec_coding.specs.Coder.{encode, message}
 use Rattle.spec_decoding.specs.Matrix.{checkSum, checkValue, entryOf, matrixOf, cell}
 use Rattle.spec_decoding.specs.Decode.{peak, zeroCount, peakCount, holders, inUpdateSet, correction, emptyUpdateSet, corrected, run, decodeWith}
 use Rattle.spec_decoding.specs.Symmetry.{move}
 use Rattle.spec_operations.specs.Coding.{codeInputRefusal, codeRefusal}
-use Rattle.spec_cases.specs.Cases.{checks, codes, reads, declines, fills, decodes, holds, leaves, compares, moved, packs, unpacks, cases, remainders, likenesses, shorts, forms, packings, accepted, AllHold, none, _also_}
+use Rattle.spec_operations.specs.Burst.{burstInputRefusal, burstRefusal}
+use Rattle.spec_cases.specs.Cases.{checks, codes, reads, declines, fills, decodes, holds, leaves, compares, bursts, burstDeclines, moved, packs, unpacks, cases, remainders, likenesses, shorts, forms, packings, burstCases, accepted, AllHold, none, _also_}
 
 pub cases-hold : AllHold cases
 unfolding codes fills decodes holds moved fold table polynomial timesX shiftAdd product first inverse W.at W.distance W.turn W.product W.scale W.plus before allZero reduce remainder isCode width degreeOf bookOf encode checkSum checkValue entryOf matrixOf cell peak zeroCount peakCount holders inUpdateSet correction emptyUpdateSet corrected run decodeWith move
@@ -42,6 +44,10 @@ forms-hold = refl also refl also refl also refl also refl also refl also refl al
 pub packings-hold : AllHold packings
 unfolding packs unpacks fold table lane packed
 packings-hold = refl also refl also refl also refl also refl also none
+
+pub bursts-hold : AllHold burstCases
+unfolding bursts burstDeclines mixed unmixed joined burstInputRefusal burstRefusal wordsOk inputOk inputRefusal fold table polynomial timesX shiftAdd product first inverse W.at W.weight W.distance W.product isMultipleOfTurn alike before allZero reduce remainder divides unity isCode width degreeOf bookOf lengthFits lengthOk kindsOk sizesOk bodyOk symbolsOk generatorOk limitsOk dualOk dualsOk distinctOk bookRefusal refusal checkSum checkValue entryOf matrixOf cell peak zeroCount peakCount holders inUpdateSet correction emptyUpdateSet corrected run decodeWith
+bursts-hold = refl also refl also refl also refl also refl also refl also refl also refl also refl also refl also refl also refl also none
 
 pub books-accepted : AllHold accepted
 unfolding checks fold table polynomial timesX shiftAdd product W.weight W.product before allZero reduce remainder divides unity width degreeOf bookOf lengthFits lengthOk kindsOk sizesOk bodyOk symbolsOk generatorOk limitsOk dualOk dualsOk distinctOk bookRefusal refusal

@@ -1,4 +1,4 @@
--- SCOPE 8: The worked cases 1 to 14, remainders, words that are alike, short messages, forms and packed numbers: what the definitions give, and what
+-- SCOPE 8: The worked cases 1 to 14, remainders, words that are alike, short messages, forms, packed numbers and bursts: what the definitions give, and what
 -- SCOPE.md has.
 -- Assumes nothing.
 use mathlib.Core.Path.{_≡_}
@@ -12,6 +12,7 @@ use Rattle.spec_field.specs.Symbols.{product, gf}
 use Rattle.spec_word.specs.Word.{at}
 use Rattle.spec_word.specs.Alike.{alike}
 use Rattle.spec_word.specs.Lanes.{lane, packed}
+use Rattle.spec_word.specs.Mixed.{mixed, unmixed}
 use Rattle.spec_book.specs.Book.{remainderBy}
 use Rattle.spec_book.specs.Layout.{fieldOf, bookOf, wordLength, dualsIn}
 use Rattle.spec_book.specs.Conditions.{sizesOk, refusal}
@@ -20,6 +21,7 @@ use Rattle.spec_decoding.specs.Matrix.{matrix, cell}
 use Rattle.spec_decoding.specs.Decode.{Kind, holders, decode, mended, stalled, spent}
 use Rattle.spec_decoding.specs.Symmetry.{move}
 use Rattle.spec_operations.specs.Coding.{codeRefusal}
+use Rattle.spec_operations.specs.Burst.{burstRefusal, burstWord, answersOf, recordsOf, lastEntries}
 use Rattle.spec_cases.specs.Books.{bodyOf, bookBytes, bookA, bookB, bookC, headed}
 
 -- SCOPE 8.18: what is shown of an operation: numbers, or a kind, rounds, changed and the answer word
@@ -109,6 +111,21 @@ unfoldable pub compares : ℕ → List ℕ → List ℕ → Bool
 compares p w v =
     let n = length w in
     alike (gf p) n (at n w) (at n v)
+
+-- SCOPE 4.38 to 4.40: the answers, the records and the matrix of a burst
+unfoldable pub bursts : List ℕ → ℕ → List ℕ → List (List ℕ)
+bursts book words r =
+    let bytes = book in
+    let answers = answersOf words (burstWord bytes words r) in
+    let records = recordsOf words (burstWord bytes words r) in
+    let entries = lastEntries words (burstWord bytes words r) in
+    answers ∷ records ∷ entries ∷ []
+
+-- SCOPE 7.18: the number of a burst with these sizes of its answers, list and matrix
+unfoldable pub burstDeclines : List ℕ → ℕ → List ℕ → ℕ → ℕ → ℕ → ℕ
+burstDeclines book words r answers list entries =
+    let bytes = book in
+    burstRefusal bytes words r answers list entries
 
 -- SCOPE 5.11: the word w turned by t, times c, plus v
 unfoldable pub moved : List ℕ → ℕ → ℕ → List ℕ → List ℕ → List ℕ
@@ -235,6 +252,43 @@ packings =
     ∷ (unpacks 18446744073709551615 ≡ 255 ∷ 255 ∷ 255 ∷ 255 ∷ 255 ∷ 255 ∷ 255 ∷ 255 ∷ [])
     -- added: 1, 2, 3 and 2, 2, 1, and 63 at place 7
     ∷ (unpacks (bitXor (packs (1 ∷ 2 ∷ 3 ∷ [])) (packs (2 ∷ 2 ∷ 1 ∷ 0 ∷ 0 ∷ 0 ∷ 0 ∷ 63 ∷ []))) ≡ 3 ∷ 0 ∷ 2 ∷ 0 ∷ 0 ∷ 0 ∷ 0 ∷ 63 ∷ [])
+    ∷ []
+
+-- SCOPE 8.25: the three words 1000000, 1100000 and 1101000, and how they are mixed
+abbrev pub threeWords : ℕ → List ℕ
+threeWords m = getD ((1 ∷ 0 ∷ 0 ∷ 0 ∷ 0 ∷ 0 ∷ 0 ∷ []) ∷ (1 ∷ 1 ∷ 0 ∷ 0 ∷ 0 ∷ 0 ∷ 0 ∷ []) ∷ (1 ∷ 1 ∷ 0 ∷ 1 ∷ 0 ∷ 0 ∷ 0 ∷ []) ∷ []) m []
+
+abbrev pub threeMixed : List ℕ
+threeMixed = 1 ∷ 1 ∷ 1 ∷ 0 ∷ 1 ∷ 1 ∷ 0 ∷ 0 ∷ 0 ∷ 0 ∷ 0 ∷ 1 ∷ 0 ∷ 0 ∷ 0 ∷ 0 ∷ 0 ∷ 0 ∷ 0 ∷ 0 ∷ 0 ∷ []
+
+-- SCOPE 8.25: bursts
+abbrev pub burstCases : List (Type 0)
+burstCases =
+    -- 1000000, 1100000 and 1101000 are mixed as 111 011 000 001 000 000 000, and word 1 is had from that
+    (mixed 7 3 threeWords ≡ threeMixed)
+    ∷ (unmixed 7 3 threeMixed 1 ≡ 1 ∷ 1 ∷ 0 ∷ 0 ∷ 0 ∷ 0 ∷ 0 ∷ [])
+    -- A: these three have the answers 0000000 1101000 1101000 and the records M 1 1, M 1 1, C 0 0; the last one's matrix is zero
+    ∷ (bursts (bookA 1) 3 threeMixed
+    ≡ (0 ∷ 0 ∷ 0 ∷ 0 ∷ 0 ∷ 0 ∷ 0 ∷ 1 ∷ 1 ∷ 0 ∷ 1 ∷ 0 ∷ 0 ∷ 0 ∷ 1 ∷ 1 ∷ 0 ∷ 1 ∷ 0 ∷ 0 ∷ 0 ∷ [])
+    ∷ (77 ∷ 1 ∷ 1 ∷ 77 ∷ 1 ∷ 1 ∷ 67 ∷ 0 ∷ 0 ∷ [])
+    ∷ (0 ∷ 0 ∷ 0 ∷ 0 ∷ 0 ∷ 0 ∷ 0 ∷ 0 ∷ 0 ∷ 0 ∷ 0 ∷ 0 ∷ 0 ∷ 0 ∷ [])
+    ∷ [])
+    -- A: 1101000 and 1000000, mixed as 11 10 00 10 00 00 00, leave the matrix of case 5
+    ∷ (bursts (bookA 1) 2 (1 ∷ 1 ∷ 1 ∷ 0 ∷ 0 ∷ 0 ∷ 1 ∷ 0 ∷ 0 ∷ 0 ∷ 0 ∷ 0 ∷ 0 ∷ 0 ∷ [])
+    ≡ (1 ∷ 1 ∷ 0 ∷ 1 ∷ 0 ∷ 0 ∷ 0 ∷ 0 ∷ 0 ∷ 0 ∷ 0 ∷ 0 ∷ 0 ∷ 0 ∷ [])
+    ∷ (67 ∷ 0 ∷ 0 ∷ 77 ∷ 1 ∷ 1 ∷ [])
+    ∷ (0 ∷ 2 ∷ 2 ∷ 2 ∷ 2 ∷ 2 ∷ 2 ∷ 4 ∷ 2 ∷ 2 ∷ 2 ∷ 2 ∷ 2 ∷ 2 ∷ [])
+    ∷ [])
+    -- A: the number is 14 for 0 words and for 17, also where the length is wrong, and for 16 it is 9 then
+    ∷ (burstDeclines (bookA 1) 0 [] 0 0 14 ≡ 14)
+    ∷ (burstDeclines (bookA 1) 17 threeMixed 0 0 0 ≡ 14)
+    ∷ (burstDeclines (bookA 1) 16 threeMixed 0 0 0 ≡ 9)
+    -- A: the number is 10 for 20 bytes of answers, for 4 records and for 13 entries, 11 for a symbol 2, and 0 where nothing is wrong
+    ∷ (burstDeclines (bookA 1) 3 threeMixed 20 3 14 ≡ 10)
+    ∷ (burstDeclines (bookA 1) 3 threeMixed 21 4 14 ≡ 10)
+    ∷ (burstDeclines (bookA 1) 3 threeMixed 21 3 13 ≡ 10)
+    ∷ (burstDeclines (bookA 1) 1 (0 ∷ 0 ∷ 0 ∷ 0 ∷ 0 ∷ 0 ∷ 2 ∷ []) 7 1 14 ≡ 11)
+    ∷ (burstDeclines (bookA 1) 3 threeMixed 21 3 14 ≡ 0)
     ∷ []
 
 -- every case of a list holds

@@ -4,3 +4,5 @@ pub mod Remainder
 pub mod Trips
 pub mod Packed
 pub mod Short
+pub mod Decoding
+pub mod Burst

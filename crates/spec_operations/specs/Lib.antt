@@ -5,5 +5,7 @@ pub mod Remainder
 pub mod Decoding
 pub mod Packed
 pub mod Twice
+pub mod Burst
+pub mod BurstTwice
 pub mod Trips
 pub mod Short

@@ -7,3 +7,4 @@ pub mod Unique
 pub mod CyclicCode
 pub mod Alike
 pub mod Lanes
+pub mod Mixed

@@ -3,3 +3,4 @@ pub mod Division
 pub mod CyclicCode
 pub mod Alike
 pub mod Lanes
+pub mod Mixed

@@ -1,44 +1,39 @@
 -- Demand 3, from what two calls of decode ensure and the symmetry of the definitions.
 -- Assumes nothing.
-use mathlib.Core.Path.{_≡_, ap, _∙_, subst}
-use mathlib.Core.Bool.{true}
+use mathlib.Core.Path.{_≡_, refl, sym, ap, _∙_, subst}
 use mathlib.Core.List.{List}
-use Prim.Native.Nat.{ℕ, _*_, _%_, _<_}
+use Prim.Native.Nat.{ℕ, _%_, _<_}
 use native.Mathlib.Nat.{mod-lt}
-use native.Mathlib.Omega.{arith}
-use borrow.Author.Tests.{eq-eqb}
-use lib.Dec.{eqb, ltb, lt→ltb}
-use lib.ListN.{length, getD}
-use Rattle.spec_range.proofs.Tests.{test-true}
-use Rattle.spec_range.proofs.Table.{all-of}
 use Rattle.spec_field.specs.Answer.{Answer, answer, left}
+use Rattle.spec_field.proofs.Refusals.{found-next}
 use Rattle.spec_word.specs.Word.{IsWord, at}
 use Rattle.spec_word.proofs.Place.{SymbolList, at-lt}
 use Rattle.spec_book.specs.Layout.{fieldOf, bookOf}
-use Rattle.spec_book.specs.Conditions.{refusal, inputOk, inputRefusal}
+use Rattle.spec_book.specs.Conditions.{refusal}
 use Rattle.spec_book.proofs.Known.{n-pos}
 use Rattle.spec_decoding.specs.Decode.{Result}
 use Rattle.spec_decoding.specs.Symmetry.{Moved}
 use Rattle.spec_decoding.proofs.Demand3.{moved-word, demand-3}
-use Rattle.spec_operations.specs.Decoding.{decodeInputRefusal, decodeRefusal, decodeBytes, values, Decodes}
+use Rattle.spec_operations.specs.Decoding.{matrixSize, decodeInputRefusal, decodeRefusal, decodeBytes, values, Decodes}
+use Rattle.spec_operations.proofs.Decoding.{decode-taken}
 use Rattle.spec_operations.specs.Twice.{Given, Shows, Related}
 
 -- ---- a call that is not refused
 
 module _ (bytes : List ℕ) (e : refusal bytes ≡ 0) where
-  symbol-list : {w : List ℕ} → IsWord (fieldOf bytes) (bookOf bytes .n) w → SymbolList (fieldOf bytes) (bookOf bytes .n) w
+  pub symbol-list : {w : List ℕ} → IsWord (fieldOf bytes) (bookOf bytes .n) w → SymbolList (fieldOf bytes) (bookOf bytes .n) w
   unfolding at
   symbol-list h = record { exact = h .size; symbols = λ j. h .symbol (j % bookOf bytes .n) (mod-lt j (n-pos bytes e)) }
 
-  not-refused : (r : List ℕ) (room entries : ℕ) → length r ≡ bookOf bytes .n → ((j : ℕ) → j < bookOf bytes .n → getD r j 0 < fieldOf bytes .q)
-      → room ≡ bookOf bytes .n → entries ≡ fieldOf bytes .q * bookOf bytes .n → decodeRefusal bytes r room entries ≡ 0
-  unfolding decodeRefusal decodeInputRefusal inputRefusal inputOk
-  not-refused r room entries size symbol hr he =
-      let n = bookOf bytes .n in
-      let symbols : inputOk (fieldOf bytes .q) r ≡ true =
-      test-true (inputOk (fieldOf bytes .q) r)
-      (all-of (length r) (λ j. ltb (getD r j 0) (fieldOf bytes .q)) (λ j l. lt→ltb (getD r j 0) (fieldOf bytes .q) (symbol j (subst (λ (k : ℕ). j < k) size l)))) in
-      rw (e, eq-eqb (length r) n size, eq-eqb room n hr, eq-eqb entries (fieldOf bytes .q * n) he, symbols)
+  pub is-word : {w : List ℕ} → SymbolList (fieldOf bytes) (bookOf bytes .n) w → IsWord (fieldOf bytes) (bookOf bytes .n) w
+  is-word {w} h =
+      record { size = h .exact; symbol = λ j l. subst (λ (s : ℕ). s < fieldOf bytes .q) (at-lt (bookOf bytes .n) w l) (h .symbols j) }
+
+  not-refused : (r : List ℕ) (room entries : ℕ) → IsWord (fieldOf bytes) (bookOf bytes .n) r → room ≡ bookOf bytes .n → entries ≡ matrixSize bytes
+      → decodeRefusal bytes r room entries ≡ 0
+  unfolding decodeRefusal
+  not-refused r room entries h hr he =
+      sym (found-next 0 (refusal bytes) (decodeInputRefusal bytes r room entries) (sym e) refl) ∙ decode-taken bytes r room entries h hr he
 
 -- what a call that is not refused answers and leaves
 module _ {number : ℕ} {x : Result} {word₀ entries₀ word entries : List ℕ} {a : Answer} (z : number ≡ 0) (h : Decodes number x word₀ entries₀ a word entries) where
@@ -76,9 +71,8 @@ related bytes {r} {r′} room size room′ size′ first second t c v g =
         rw (g .moved) (moved-word bytes (g .accepted) t c (g .nonzero) (g .symbol) v (symbol-list bytes (g .accepted) (g .added)) (g .code) r)
 
     z : decodeRefusal bytes r room size ≡ 0
-    z = not-refused bytes (g .accepted) r room size (g .word .size) (g .word .symbol) (g .answer-size) (g .entries-size)
+    z = not-refused bytes (g .accepted) r room size (g .word) (g .answer-size) (g .entries-size)
 
     z′ : decodeRefusal bytes r′ room′ size′ ≡ 0
     z′ =
-        not-refused bytes (g .accepted) r′ room′ size′ (second-word .exact)
-        (λ j l. subst (λ (s : ℕ). s < fieldOf bytes .q) (at-lt (bookOf bytes .n) r′ l) (second-word .symbols j)) (g .answer-size′) (g .entries-size′)
+        not-refused bytes (g .accepted) r′ room′ size′ (is-word bytes (g .accepted) second-word) (g .answer-size′) (g .entries-size′)

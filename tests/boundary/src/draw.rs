@@ -3,6 +3,7 @@
 use reference::books;
 use reference::codebook::{check, Codebook};
 use reference::generate::{self, Random};
+use reference::packed::Record;
 
 /// The seed of a trial: a number for the test, s, p, and the trial's number.
 pub fn seed(test: u8, s: u8, p: u8, trial: u32) -> u64 {
@@ -13,6 +14,11 @@ pub fn seed(test: u8, s: u8, p: u8, trial: u32) -> u64 {
 /// Any bytes, for what a buffer holds before it is written.
 pub fn bytes(size: usize, random: &mut Random) -> Vec<u8> {
     (0..size).map(|_| random.byte()).collect()
+}
+
+/// The same for a list of records.
+pub fn records(size: usize, random: &mut Random) -> Vec<Record> {
+    (0..size).map(|_| [(); 3].map(|()| random.byte())).collect()
 }
 
 /// A size that need not be the exact one, but often is nearly.
@@ -67,6 +73,22 @@ impl Book {
     pub fn products(&self, l: usize, rounds: u8) -> usize {
         let weight = self.parts.weight();
         l * weight * weight * self.parts.n() * usize::from(rounds)
+    }
+}
+
+/// A word of n symbols with errors: few, somewhat more than D, or any number;
+/// now and then an arbitrary one.
+pub fn received(book: &Book, random: &mut Random) -> Vec<u8> {
+    let n = book.parts.n();
+    let d = usize::from(book.parts.most_places());
+    let errors = match random.below(8) {
+        0 => random.between(0, n),
+        1..=3 => random.between(1, n.min(4)),
+        _ => n.min(d + random.below(3)),
+    };
+    match random.below(8) {
+        0 => generate::arbitrary(n, book.parts.q(), random),
+        _ => generate::damaged_code_word(&book.parts, errors, random),
     }
 }
 

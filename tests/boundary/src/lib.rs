@@ -1,13 +1,14 @@
 //! The C boundary as `include/shiftsum.h` declares it, called from Rust so
 //! that it can be compared with the second implementation.
 
+pub mod burst;
 pub mod compare;
 pub mod draw;
 pub mod tally;
 pub mod way;
 
 use reference::codebook::Codebook;
-use reference::packed;
+use reference::packed::{self, Record};
 
 extern "C" {
     fn shiftsum_check(book: *const u8, book_len: usize) -> u32;
@@ -43,10 +44,21 @@ extern "C" {
         answer: *mut u8,
         answer_len: usize,
     ) -> u32;
+    fn shiftsum_burst(
+        book: *const u8,
+        book_len: usize,
+        words: u32,
+        received: *const u8,
+        received_len: usize,
+        answers: *mut u8,
+        answers_len: usize,
+        records: *mut Record,
+        records_len: usize,
+    ) -> u32;
 }
 
-/// The form that the functions which write share: codebook, input and
-/// output, each as a pointer and a length.
+/// The form that the functions which write one output share: codebook, input
+/// and output, each as a pointer and a length.
 type Call = unsafe extern "C" fn(*const u8, usize, *const u8, usize, *mut u8, usize) -> u32;
 
 /// Check has neither input nor output; in this form it leaves them alone.
@@ -61,7 +73,7 @@ unsafe extern "C" fn check_alone(
     shiftsum_check(book, book_len)
 }
 
-/// The functions of the library.
+/// The functions of the library but burst, which `burst` is for.
 #[derive(Clone, Copy, Debug, PartialEq, Eq)]
 pub enum Operation {
     Check,
@@ -210,6 +222,11 @@ impl Laid {
         self.bytes.len() - 2 * GUARD.len()
     }
 
+    /// As a call takes it.
+    fn lent(&mut self) -> (*mut u8, usize) {
+        (self.pointer(), self.len())
+    }
+
     fn untouched(&self) -> bool {
         self.bytes == self.before
     }
@@ -234,10 +251,47 @@ pub enum Touched {
     Book,
     /// The input, or what lies beside it.
     Input,
-    /// What lies beside the output.
+    /// What lies beside an output.
     Guard,
-    /// The output of a refused call.
+    /// An output of a refused call.
     Refused,
+}
+
+/// The buffers of a call, each between guards.
+struct Lent<const OUTPUTS: usize> {
+    book: Laid,
+    input: Laid,
+    outputs: [Laid; OUTPUTS],
+}
+
+impl<const OUTPUTS: usize> Lent<OUTPUTS> {
+    /// Outputs that hold what is given.
+    fn new(book: &[u8], input: &[u8], held: [&[u8]; OUTPUTS]) -> Lent<OUTPUTS> {
+        Lent {
+            book: Laid::new(book),
+            input: Laid::new(input),
+            outputs: held.map(Laid::new),
+        }
+    }
+
+    /// What the outputs hold after the call that returned the result, unless
+    /// it wrote where it must not.
+    fn after(&self, result: u32) -> Result<[Vec<u8>; OUTPUTS], Touched> {
+        if !self.book.untouched() {
+            return Err(Touched::Book);
+        }
+        if !self.input.untouched() {
+            return Err(Touched::Input);
+        }
+        let after = self.outputs.each_ref().map(Laid::held);
+        if after.iter().any(Option::is_none) {
+            return Err(Touched::Guard);
+        }
+        if refusal(result) != 0 && !self.outputs.iter().all(Laid::untouched) {
+            return Err(Touched::Refused);
+        }
+        Ok(after.map(|held| held.unwrap_or_default().to_vec()))
+    }
 }
 
 /// Lays codebook, input and output between guards, the output holding what
@@ -262,28 +316,15 @@ unsafe fn guarded_call(
     input: &[u8],
     held: &[u8],
 ) -> Result<Given, Touched> {
-    let (mut book, mut input) = (Laid::new(book), Laid::new(input));
-    let mut output = Laid::new(held);
-    let (book_at, book_len) = (book.pointer(), book.len());
-    let (input_at, input_len) = (input.pointer(), input.len());
-    let (output_at, output_len) = (output.pointer(), output.len());
+    let mut lent = Lent::new(book, input, [held]);
+    let (book_at, book_len) = lent.book.lent();
+    let (input_at, input_len) = lent.input.lent();
+    let (output_at, output_len) = lent.outputs[0].lent();
     let result = call(
         book_at, book_len, input_at, input_len, output_at, output_len,
     );
-    if !book.untouched() {
-        return Err(Touched::Book);
-    }
-    if !input.untouched() {
-        return Err(Touched::Input);
-    }
-    let after = output.held().ok_or(Touched::Guard)?;
-    if refusal(result) != 0 && !output.untouched() {
-        return Err(Touched::Refused);
-    }
-    Ok(Given {
-        result,
-        output: after.to_vec(),
-    })
+    let [output] = lent.after(result)?;
+    Ok(Given { result, output })
 }
 
 #[cfg(test)]

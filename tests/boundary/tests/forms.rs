@@ -3,6 +3,7 @@
 
 use std::collections::BTreeSet;
 
+use boundary::burst::Burst;
 use boundary::compare::Trial;
 use boundary::draw::{self, Book};
 use boundary::tally::Tally;
@@ -25,8 +26,17 @@ fn number(book: &[u8], random: &mut Random) -> u8 {
         };
         refusal(trial.compare().result)
     });
+    let burst = Burst {
+        seed: 0,
+        book,
+        words: random.below(18) as u32,
+        received: &input,
+        answers: &held,
+        records: &draw::records(random.below(3), random),
+    };
+    let numbers = [&numbers[..], &[refusal(burst.compare().result)]].concat();
     let refused = |number: &u8| (1..=8).contains(number);
-    assert!(!numbers.iter().any(refused) || numbers == [numbers[0]; 5]);
+    assert!(!numbers.iter().any(refused) || numbers == [numbers[0]; 6]);
     numbers[0]
 }
 

@@ -1,13 +1,16 @@
 //! Demand 3 at the C boundary: decoding a word, and decoding it turned,
-//! multiplied by a nonzero symbol and with a code word added.
+//! multiplied by a nonzero symbol and with a code word added; and the same of
+//! two bursts.
 
 use std::fmt;
 
+use boundary::burst::{Burst, Outcome};
 use boundary::compare::hex;
 use boundary::decode;
 use boundary::draw::{self, Book, Shelf};
 use boundary::tally::Tally;
 use boundary::{kind, refusal, rounds};
+use reference::burst::{mix, MOST_WORDS};
 use reference::generate::{self, Random, SHAPES};
 use reference::word;
 
@@ -23,17 +26,7 @@ struct Quadruple {
 
 impl Quadruple {
     fn new(seed: u64, book: Book, random: &mut Random) -> Quadruple {
-        let n = book.parts.n();
-        let d = usize::from(book.parts.most_places());
-        let errors = match random.below(8) {
-            0 => random.between(0, n),
-            1..=3 => random.between(1, n.min(4)),
-            _ => n.min(d + random.below(3)),
-        };
-        let r = match random.below(8) {
-            0 => generate::arbitrary(n, book.parts.q(), random),
-            _ => generate::damaged_code_word(&book.parts, errors, random),
-        };
+        let (n, r) = (book.parts.n(), draw::received(&book, random));
         let (within, any) = (random.below(n), random.draw() as usize);
         let t = *random.pick(&[within, within, any, any, 0, 1, n, usize::MAX]);
         let c = random.symbol(1, book.parts.q());
@@ -71,16 +64,22 @@ impl Quadruple {
             hex(&second_answer)
         );
         tally.tried();
-        tally.count("kind", kind(first));
-        if rounds(first) >= 2 {
-            tally.count("2 rounds or more", kind(first));
+        self.count(kind(first), rounds(first), tally);
+        first
+    }
+
+    /// Counts what the word came to, and how it was moved.
+    fn count(&self, kind: char, rounds: u8, tally: &mut Tally) {
+        tally.count("kind", kind);
+        if rounds >= 2 {
+            tally.count("2 rounds or more", kind);
         }
         tally.count("s and p", self.book.shape());
-        tally.count("t", if self.t < n { "below n" } else { "n or more" });
+        let below = self.t < self.book.parts.n();
+        tally.count("t", if below { "below n" } else { "n or more" });
         tally.count("c", if self.c == 1 { "1" } else { "2 or more" });
         let still = word::weight(&self.v) == 0;
         tally.count("v", if still { "zero" } else { "not zero" });
-        first
     }
 }
 
@@ -154,4 +153,77 @@ fn demand_3_for_s_7_and_8() {
         quadruples(s, p, 400, 400_000_000, &mut tally);
     }
     tally.finish(1);
+}
+
+/// A burst of the words into buffers that hold the byte before.
+fn burst(seed: u64, book: &Book, words: &[Vec<u8>], held: u8) -> Outcome {
+    let received = mix(words);
+    let burst = Burst {
+        seed,
+        book: &book.bytes,
+        words: words.len() as u32,
+        received: &received,
+        answers: &vec![held; received.len()],
+        records: &vec![[held; 3]; words.len()],
+    };
+    burst.call()
+}
+
+/// Two bursts, word m of the second being that of the first as quadruple m
+/// moves it; fails unless the records are equal and every answer of the
+/// second is that of the first, moved as its word is.
+fn two_bursts(quadruples: &[Quadruple], tally: &mut Tally) {
+    let Quadruple { seed, book, .. } = &quadruples[0];
+    let moved = quadruples
+        .iter()
+        .map(|quadruple| quadruple.moved(&quadruple.r));
+    let received: Vec<Vec<u8>> = quadruples
+        .iter()
+        .map(|quadruple| quadruple.r.clone())
+        .collect();
+    let first = burst(*seed, book, &received, 0x11);
+    let second = burst(*seed, book, &moved.collect::<Vec<_>>(), 0xfe);
+    let answers = quadruples.iter().zip(first.answers.chunks(book.parts.n()));
+    let answers = answers.flat_map(|(quadruple, answer)| quadruple.moved(answer));
+    let due = Outcome {
+        answers: answers.collect(),
+        ..first
+    };
+    assert!(
+        due.result == 0 && second == due,
+        "first, moved {due}\nsecond       {second}\n{}",
+        quadruples
+            .iter()
+            .map(Quadruple::to_string)
+            .collect::<String>()
+    );
+    tally.tried();
+    tally.count("M", quadruples.len());
+    for (quadruple, [kind, rounds, _]) in quadruples.iter().zip(due.records) {
+        quadruple.count(kind.into(), rounds, tally);
+    }
+}
+
+#[test]
+fn demand_3_of_two_bursts() {
+    let mut tally = due("symmetry, two bursts")
+        .due("s and p", SHAPES.map(|(s, p)| format!("{s} {p}")))
+        .due("M", 1..=MOST_WORDS);
+    for (s, p) in SHAPES {
+        let mut random = Random::new(draw::seed(2, s, p, u32::MAX));
+        let shelf = Shelf::new(s, p, 30, &mut random);
+        for trial in 0..100 {
+            let seed = draw::seed(2, s, p, trial);
+            let mut random = Random::new(seed);
+            let book = match trial % 2 {
+                0 => shelf.take(random.between(1, 32), 150_000, &mut random),
+                _ => shelf.light(&mut random),
+            };
+            let count = random.between(1, MOST_WORDS as usize);
+            let quadruple = |_| Quadruple::new(seed, book.clone(), &mut random);
+            let quadruples: Vec<Quadruple> = (0..count).map(quadruple).collect();
+            two_bursts(&quadruples, &mut tally);
+        }
+    }
+    tally.finish(5);
 }

@@ -13,7 +13,7 @@ pub use copies::likeness;
 pub use damage::{damage, damage_all};
 pub use random::Random;
 pub use words::{any_message, any_word, arbitrary, bad_symbol, code_word, damaged_code_word};
-pub use words::{message, short_message, wrong_length};
+pub use words::{good_word, message, short_message, wrong_length};
 
 use crate::books;
 use crate::field::Field;

@@ -4,6 +4,7 @@
 //! the scope, and none is made faster than the sentence is.
 
 pub mod books;
+pub mod burst;
 pub mod codebook;
 pub mod coder;
 pub mod decode;

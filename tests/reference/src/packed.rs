@@ -2,11 +2,12 @@
 //!
 //! The lowest byte is the refusal number or 0. A refused call has the other
 //! three bytes 0. Check has L in byte 1; decode has changed in byte 1,
-//! rounds in byte 2 and the letter of the kind in byte 3.
+//! rounds in byte 2 and the letter of the kind in byte 3. A burst has the
+//! same three in a record for each word.
 
 use crate::codebook::{self, Codebook};
 use crate::coder;
-use crate::decode::Decoded;
+use crate::decode::{Decoded, Kind};
 
 /// Check, its result packed.
 pub fn check(book: &[u8]) -> u32 {
@@ -37,6 +38,52 @@ pub fn decode(book: &[u8], received: &[u8], answer: &mut [u8]) -> u32 {
     }))
 }
 
+/// A record as it crosses the C boundary: the letter of the kind, rounds,
+/// changed.
+pub type Record = [u8; 3];
+
+/// Burst, its records packed; the matrix is local as decode's is.
+pub fn burst(
+    book: &[u8],
+    words: u32,
+    received: &[u8],
+    answers: &mut [u8],
+    records: &mut [Record],
+) -> u32 {
+    match codebook::check(book) {
+        Ok(book) => open_burst(&book, words, received, answers, records),
+        Err(number) => u32::from(number),
+    }
+}
+
+/// The same for a codebook that is open.
+pub fn open_burst(
+    book: &Codebook,
+    words: u32,
+    received: &[u8],
+    answers: &mut [u8],
+    records: &mut [Record],
+) -> u32 {
+    let unwritten = Decoded {
+        kind: Kind::Clean,
+        rounds: 0,
+        changed: 0,
+    };
+    let mut list = vec![unwritten; records.len()];
+    let mut entries = vec![0; book.entries()];
+    let result = book.burst(words, received, answers, &mut list, &mut entries);
+    if result.is_ok() {
+        for (record, decoded) in records.iter_mut().zip(&list) {
+            *record = pack_record(decoded);
+        }
+    }
+    pack_done(result)
+}
+
+fn pack_record(decoded: &Decoded) -> Record {
+    [decoded.kind.letter() as u8, decoded.rounds, decoded.changed]
+}
+
 /// The number for what check returns.
 pub fn pack_check(result: &Result<Codebook, u8>) -> u32 {
     match result {
@@ -45,7 +92,7 @@ pub fn pack_check(result: &Result<Codebook, u8>) -> u32 {
     }
 }
 
-/// The number for what code, read and remainder return.
+/// The number for what code, read, remainder and burst return.
 pub fn pack_done(result: Result<(), u8>) -> u32 {
     match result {
         Ok(()) => 0,
@@ -57,8 +104,8 @@ pub fn pack_done(result: Result<(), u8>) -> u32 {
 pub fn pack_decode(result: Result<Decoded, u8>) -> u32 {
     match result {
         Ok(decoded) => {
-            let letter = decoded.kind.letter() as u8;
-            u32::from_le_bytes([0, decoded.changed, decoded.rounds, letter])
+            let [letter, rounds, changed] = pack_record(&decoded);
+            u32::from_le_bytes([0, changed, rounds, letter])
         }
         Err(number) => u32::from(number),
     }

@@ -7,7 +7,7 @@ use reference::books::{self, long};
 use reference::codebook::{check, Codebook};
 use reference::form::{Form, FORMS, LONG, SHORT};
 use reference::generate::{self, Random, SHAPES};
-use reference::{coder, decode, matrix, packed, word};
+use reference::{burst, coder, decode, matrix, packed, word};
 
 /// What check finds, and that every operation refuses by the same number and
 /// writes nothing.
@@ -21,8 +21,9 @@ fn number(book: &[u8]) -> u8 {
             coder::remainder(book, &input, &mut word).err(),
             matrix::matrix(book, &input, &mut entries).err(),
             decode::decode(book, &input, &mut word, &mut entries).err(),
+            burst::burst(book, 1, &input, &mut word, &mut [], &mut entries).err(),
         ];
-        assert_eq!(found, [number; 5]);
+        assert_eq!(found, [number; 6]);
         assert_eq!((word, entries), ([0xa5; 7], [0xa5a5; 14]));
     }
     number.unwrap_or(0)

@@ -3,6 +3,7 @@
 
 use std::collections::BTreeMap;
 
+use reference::burst::MOST_WORDS;
 use reference::codebook::{check, Codebook};
 use reference::decode::{Decoded, Kind};
 use reference::generate::{self, Random, SHAPES};
@@ -50,16 +51,6 @@ fn matrix(book: &Codebook, received: &[u8], held: u16) -> Vec<u16> {
     entries
 }
 
-/// A word that no operation but read refuses: of n symbols.
-fn good_word(book: &Codebook, random: &mut Random) -> Vec<u8> {
-    loop {
-        let word = generate::any_word(book, random);
-        if word.len() == book.n() && word.iter().all(|&symbol| symbol < book.q()) {
-            return word;
-        }
-    }
-}
-
 #[test]
 fn reading_and_coding_undo_each_other() {
     let (mut read_back, mut coded_back, mut refused) = (0, 0, 0);
@@ -72,7 +63,7 @@ fn reading_and_coding_undo_each_other() {
             assert_eq!(read, message);
             read_back += 1;
 
-            let word = good_word(book, random);
+            let word = generate::good_word(book, random);
             match book.read(&word, &mut read) {
                 Ok(()) => {
                     let mut coded = vec![255; book.n()];
@@ -102,7 +93,7 @@ fn every_column_adds_up_and_every_entry_is_counted_by_the_product() {
     let mut tried = 0;
     on_books(8, 100_000_000, |book, random| {
         for _ in 0..trials(book, 6) {
-            let received = good_word(book, random);
+            let received = generate::good_word(book, random);
             let (n, field) = (book.n(), book.field());
             let entries = matrix(book, &received, 60_000);
             for j in 0..n {
@@ -181,7 +172,7 @@ fn decode_makes_its_rounds() {
     let mut later = 0;
     on_books(16, 500_000, |book, random| {
         for _ in 0..trials(book, 12) {
-            let received = good_word(book, random);
+            let received = generate::good_word(book, random);
             let (decoded, answer, entries) = decode(book, &received, 0xee);
             let (kind, rounds, word, last) = follow(book, &received);
             assert_eq!((decoded.kind, decoded.rounds), (kind, rounds));
@@ -212,7 +203,7 @@ fn demand_3() {
     on_books(16, 500_000, |book, random| {
         for _ in 0..trials(book, 12) {
             let (n, field) = (book.n(), book.field());
-            let r = good_word(book, random);
+            let r = generate::good_word(book, random);
             let any = random.below(3 * n);
             let t = *random.pick(&[any, any, 0, 1, n - 1, n, 1000 * n + 1, usize::MAX]);
             let c = random.symbol(1, book.q());
@@ -241,4 +232,45 @@ fn demand_3() {
     assert_eq!(kinds.len(), 4);
     assert!(kinds.values().all(|&count| count > 50), "{kinds:?}");
     assert!(turned_far > 100 && scaled > 100 && moved > 100);
+}
+
+#[test]
+fn a_burst_is_its_words_decoded_singly() {
+    let (mut last, mut made) = (BTreeMap::<Kind, usize>::new(), 0);
+    on_books(6, 500_000, |book, random| {
+        for _ in 0..trials(book, 4) {
+            // Every M as often.
+            let (n, words) = (book.n(), 1 + made % MOST_WORDS);
+            let count = words as usize;
+            let (mut received, mut singly) = (vec![0; n * count], Vec::new());
+            for m in 0..count {
+                let word = generate::good_word(book, random);
+                for (j, &symbol) in word.iter().enumerate() {
+                    received[j * count + m] = symbol;
+                }
+                singly.push(decode(book, &word, 0x11));
+            }
+            // No round has this number.
+            let held = Decoded {
+                rounds: 0xa5,
+                ..singly[0].0
+            };
+            let (mut answers, mut records) = (vec![0xfe; n * count], vec![held; count]);
+            let mut entries = vec![u16::MAX; book.entries()];
+            let result = book.burst(words, &received, &mut answers, &mut records, &mut entries);
+            assert_eq!(result, Ok(()));
+            for (m, (decoded, answer, _)) in singly.iter().enumerate() {
+                assert_eq!(records[m], *decoded);
+                assert_eq!(answers[m * n..][..n], *answer);
+            }
+            let (decoded, _, matrix) = &singly[count - 1];
+            assert_eq!(entries, *matrix);
+            *last.entry(decoded.kind).or_default() += 1;
+            made += 1;
+        }
+    });
+    println!("bursts: {made}, the last word's kind {last:?}");
+    assert!(made > 200, "{made}");
+    assert_eq!(last.len(), 4);
+    assert!(last.values().all(|&count| count > 10), "{last:?}");
 }

@@ -74,3 +74,25 @@ fn a_refused_decode_has_the_number_alone() {
     assert_eq!(packed::decode(&books::a_with(8), &bad, &mut word), 6);
     assert_eq!(word, [255; 7]);
 }
+
+#[test]
+fn a_burst_has_its_numbers_in_records() {
+    let (mut answers, mut records) = ([255; 6], [[0xa5; 3]; 2]);
+    let mut burst = |words: u32, mixed: &str| {
+        let received = symbols(mixed);
+        let result = packed::burst(&books::b(), words, &received, &mut answers, &mut records);
+        (result, answers.to_vec(), records)
+    };
+    // Cases 10 and 11, of which nothing is written where it is refused.
+    let held = (vec![255; 6], [[0xa5; 3]; 2]);
+    for (words, mixed, number) in [(17, "31 12 10", 14), (2, "31", 9), (2, "31 12 14", 11)] {
+        assert_eq!(burst(words, mixed), (number, held.0.clone(), held.1));
+    }
+    let answers = symbols("111 120");
+    assert_eq!(
+        burst(2, "31 12 10"),
+        (0, answers, [[b'M', 1, 1], [b'S', 1, 0]])
+    );
+    let result = packed::burst(&[], 2, &[], &mut [], &mut []);
+    assert_eq!(result, 1);
+}

@@ -47,16 +47,6 @@ fn all_words(length: usize, q: u8) -> Vec<Vec<u8>> {
         .collect()
 }
 
-/// A word of n symbols below q.
-fn good_word(book: &Codebook, random: &mut Random) -> Vec<u8> {
-    loop {
-        let word = generate::any_word(book, random);
-        if word.len() == book.n() && word.iter().all(|&symbol| symbol < book.q()) {
-            return word;
-        }
-    }
-}
-
 #[test]
 fn followed_by_hand() {
     let cases = [
@@ -141,7 +131,7 @@ fn on_words(mut trial: impl FnMut(&Codebook, &[u8], &mut Random)) {
             let bytes = generate::book(s, p, &mut random).expect("a shape");
             let book = check(&bytes).expect("accepted");
             for _ in 0..8 {
-                let word = good_word(&book, &mut random);
+                let word = generate::good_word(&book, &mut random);
                 trial(&book, &word, &mut random);
             }
         }

@@ -85,6 +85,16 @@ pub fn any_word(book: &Codebook, random: &mut Random) -> Vec<u8> {
     }
 }
 
+/// A word of any sort that no operation but read refuses: of n symbols.
+pub fn good_word(book: &Codebook, random: &mut Random) -> Vec<u8> {
+    loop {
+        let word = any_word(book, random);
+        if word.len() == book.n() && word.iter().all(|&symbol| symbol < book.q()) {
+            return word;
+        }
+    }
+}
+
 /// A message of any sort: full, short, with bad symbols, too long, or none.
 pub fn any_message(book: &Codebook, random: &mut Random) -> Vec<u8> {
     let full = message(book, random);

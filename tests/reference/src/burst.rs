@@ -1,0 +1,63 @@
+//! Burst (request K1, "Bursts of a whole game").
+
+use crate::codebook::{check, Codebook};
+use crate::decode::Decoded;
+use crate::refuse;
+
+/// "It refuses an M of 0 or above 16."
+pub const MOST_WORDS: u32 = 16;
+
+/// Burst: the refusals of the book, then those of the call.
+pub fn burst(
+    book: &[u8],
+    words: u32,
+    received: &[u8],
+    answers: &mut [u8],
+    records: &mut [Decoded],
+    entries: &mut [u16],
+) -> Result<(), u8> {
+    check(book)?.burst(words, received, answers, records, entries)
+}
+
+impl Codebook {
+    /// "One call decodes all M and writes the answer words one after another,
+    /// plus one record per word in a lent list", and "the matrix left is the
+    /// last word's". Refusal 14 stands "after 8 and before 9".
+    pub fn burst(
+        &self,
+        words: u32,
+        received: &[u8],
+        answers: &mut [u8],
+        records: &mut [Decoded],
+        entries: &mut [u16],
+    ) -> Result<(), u8> {
+        refuse(14, words == 0 || words > MOST_WORDS)?;
+        let words = words as usize;
+        let size = self.n() * words;
+        refuse(9, received.len() != size)?;
+        let exact = answers.len() == size && records.len() == words;
+        refuse(10, !exact || entries.len() != self.entries())?;
+        self.field().admit(received)?;
+        // "Those of decoding it singly": nothing is left to be refused.
+        for (m, answer) in answers.chunks_mut(self.n()).enumerate() {
+            records[m] = self.decode(&unmixed(received, words, m), answer, entries)?;
+        }
+        Ok(())
+    }
+}
+
+/// Word m of M: its "symbol j stands at place j x M + m".
+pub fn unmixed(mixed: &[u8], words: usize, m: usize) -> Vec<u8> {
+    (0..mixed.len() / words)
+        .map(|j| mixed[j * words + m])
+        .collect()
+}
+
+/// The words mixed, all of one length: at each place j the symbols of words 0
+/// to M - 1.
+pub fn mix(words: &[Vec<u8>]) -> Vec<u8> {
+    let n = words.first().map_or(0, Vec::len);
+    (0..n)
+        .flat_map(|j| words.iter().map(move |word| word[j]))
+        .collect()
+}
