@@ -1,7 +1,7 @@
 -- What a caller that fills a list of records from those by value needs: how many there are, and what the list holds in the end.
 -- Assumes nothing.
 use mathlib.Core.Path.{_≡_, refl, sym, ap, ap₂, _∙_}
-use mathlib.Core.List.{List, [], _++_}
+use mathlib.Core.List.{List, [], _++_, append-nil}
 use Prim.Native.Nat.{ℕ, zero, suc, _≤_}
 use native.Mathlib.Nat.{le-of-eq}
 use native.Mathlib.Omega.{arith}
@@ -14,7 +14,7 @@ use Rattle.spec_operations.proofs.Burst.{TakenBurst, taken-burst}
 use Rattle.burst.specs.Said.{listBytes, madeBytes, counted}
 use Rattle.burst.specs.declared.Record.{Record}
 use Rattle.burst.specs.declared.Burst.{Burst}
-use Rattle.burst.proofs.Loop.{append-nil, list-bytes-append}
+use Rattle.burst.proofs.Loop.{list-bytes-append}
 
 -- a whole call with the number 0
 pub taken : (bytes : List ℕ) (words : ℕ) (r : List ℕ) (room list size : ℕ) → burstRefusal bytes words r room list size ≡ 0 → TakenBurst bytes words r room list size

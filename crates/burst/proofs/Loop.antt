@@ -1,7 +1,7 @@
 -- The words of a burst, decoded one after another: what stands after m of them.
 -- Assumes nothing.
 use mathlib.Core.Path.{_≡_, refl, sym, ap, ap₂, _∙_, subst}
-use mathlib.Core.List.{List, [], _∷_, _++_}
+use mathlib.Core.List.{List, [], _∷_, _++_, append-assoc, append-nil}
 use Prim.Native.Nat.{ℕ, zero, suc, pred, _+_, _*_, _-_, _^_, _≤_, _<_}
 use native.Mathlib.Nat.{suc-mul, zero-mul, mul-comm, suc-inj}
 use native.Mathlib.Omega.{arith}
@@ -18,14 +18,6 @@ use Rattle.burst.specs.Words.{DecodedWord, DecodedWords}
 use Rattle.burst.specs.declared.Record.{Record}
 
 -- ---- lists
-
-append-assoc : (xs ys zs : List ℕ) → (xs ++ ys) ++ zs ≡ xs ++ (ys ++ zs)
-append-assoc [] ys zs = refl
-append-assoc (x ∷ xs) ys zs = ap (λ (l : List ℕ). x ∷ l) (append-assoc xs ys zs)
-
-pub append-nil : (xs : List ℕ) → xs ++ [] ≡ xs
-append-nil [] = refl
-append-nil (x ∷ xs) = ap (λ (l : List ℕ). x ∷ l) (append-nil xs)
 
 pub list-bytes-append : (xs ys : List Record) → listBytes (xs ++ ys) ≡ listBytes xs ++ listBytes ys
 list-bytes-append [] ys = refl

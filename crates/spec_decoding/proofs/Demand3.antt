@@ -12,8 +12,11 @@ use Rattle.spec_book.specs.Book.{Book, isCodeWord}
 use Rattle.spec_book.specs.Layout.{symbolDigits, fieldOf, bookOf}
 use Rattle.spec_book.specs.Conditions.{refusal}
 use Rattle.spec_book.proofs.Accepting.{accepted}
+use Rattle.spec_book.proofs.Known.{n-pos}
+use Rattle.spec_decoding.specs.Matrix.{matrix}
 use Rattle.spec_decoding.specs.Decode.{decode}
 use Rattle.spec_decoding.specs.Symmetry.{move, Moved}
+use Rattle.spec_decoding.proofs.Decode.{decode-answer}
 use Rattle.spec_decoding.proofs.Symmetry.{move-symbols, symmetry}
 
 module _ (bytes : List ℕ) (e : refusal bytes ≡ 0) where
@@ -30,6 +33,13 @@ module _ (bytes : List ℕ) (e : refusal bytes ≡ 0) where
   moved-word =
       let ok = accepted bytes e in
       move-symbols F (gf-laws (symbolDigits bytes) (ok .0 .p-low) (ok .0 .p-high)) B (ok .1)
+
+  -- and so is every answer
+  pub answer-word : (r : List ℕ) → SymbolList F (B .n) r → SymbolList F (B .n) (decode F B r .answer)
+  answer-word r h =
+      let ok = accepted bytes e in
+      let laws = gf-laws (symbolDigits bytes) (ok .0 .p-low) (ok .0 .p-high) in
+      decode-answer F laws B (n-pos bytes e) (matrix F B) r h
 
   pub demand-3 : (t c : ℕ) → 0 < c → c < F .q
       → (v : List ℕ) → SymbolList F (B .n) v → T (isCodeWord F B (at (B .n) v))

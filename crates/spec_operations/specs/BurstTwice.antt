@@ -2,19 +2,19 @@
 -- Assumes nothing.
 use mathlib.Core.Path.{_≡_}
 use mathlib.Core.List.{List, []}
-use Prim.Native.Nat.{ℕ, _<_}
+use Prim.Native.Nat.{ℕ, pred, _+_, _*_, _%_, _<_}
 use lib.Dec.{T}
+use lib.ListN.{getD}
 use Rattle.spec_field.specs.Field.{FieldOps}
 use Rattle.spec_field.specs.Answer.{Answer, done}
 use Rattle.spec_word.specs.Word.{IsWord, at}
-use Rattle.spec_word.specs.Mixed.{mixed}
+use Rattle.spec_word.specs.Mixed.{mixed, part}
 use Rattle.spec_book.specs.Book.{Book, isCodeWord}
 use Rattle.spec_book.specs.Layout.{fieldOf, bookOf}
 use Rattle.spec_book.specs.Conditions.{refusal, wordsOk}
-use Rattle.spec_decoding.specs.Decode.{Result}
-use Rattle.spec_decoding.specs.Symmetry.{move, Moved}
+use Rattle.spec_decoding.specs.Symmetry.{move}
 use Rattle.spec_operations.specs.Decoding.{matrixSize}
-use Rattle.spec_operations.specs.Burst.{burstSize, answersOf, recordsOf, lastEntries}
+use Rattle.spec_operations.specs.Burst.{burstSize}
 
 module _ (bytes : List ℕ) where
   -- SCOPE 1.1: the field of the book
@@ -43,17 +43,14 @@ module _ (bytes : List ℕ) where
     pub first : r ≡ mixed (B .n) words w
     pub second : r′ ≡ mixed (B .n) words (λ m. move F (B .n) (t m) (c m) (v m) (w m))
 
-  -- SCOPE 5.24: what a burst that is not refused answers, lists and writes are the results of its words
-  pub record ShowsBurst (words : ℕ) (word : ℕ → Result) (a : Answer) (answers records entries : List ℕ) : Type 0 where
-    pub answers-done : a ≡ done []
-    pub answers-are : answers ≡ answersOf words word
-    pub records-are : records ≡ recordsOf words word
-    pub entries-are : entries ≡ lastEntries words word
-
-  -- SCOPE 5.24: what the two bursts answer, a and a′, list and write: the second result of every word is the first one moved
+  -- SCOPE 5.24: what the two bursts answer, a and a′, list and write
   pub record RelatedBursts (words : ℕ) (t c : ℕ → ℕ) (v : ℕ → List ℕ) (a a′ : Answer) (answers answers′ records records′ entries entries′ : List ℕ) : Type 0 where
-    pub x : ℕ → Result
-    pub x′ : ℕ → Result
-    pub first : ShowsBurst words x a answers records entries
-    pub second : ShowsBurst words x′ a′ answers′ records′ entries′
-    pub moved : (m : ℕ) → m < words → Moved F B (t m) (c m) (v m) (x m) (x′ m)
+    pub first-done : a ≡ done []
+    pub second-done : a′ ≡ done []
+    -- SCOPE 5.13: one kind, as many rounds and as many changed places of every word
+    pub same-records : records′ ≡ records
+    -- SCOPE 5.14: answer word m is moved as received word m was
+    pub moved-answers : (m : ℕ) → m < words → part (B .n) answers′ m ≡ move F (B .n) (t m) (c m) (v m) (part (B .n) answers m)
+    -- SCOPE 5.15: the matrix is moved by the last word's turn and symbol
+    pub moved-entries : (i j : ℕ) → i < F .q → j < B .n
+        → getD entries′ (F .mul (c (pred words)) i * B .n + (j + t (pred words)) % B .n) 0 ≡ getD entries (i * B .n + j) 0

@@ -10,7 +10,7 @@ use lib.Arith.{digits-lt, digits-div, digits-mod}
 use lib.ListN.{length, getD, length-append, List·getD-append}
 use lib.Seq.{ext-getD, getD-append-add}
 use Rattle.spec_range.proofs.Table.{table-length, table-at}
-use Rattle.spec_word.specs.Mixed.{mixed, unmixed, joined}
+use Rattle.spec_word.specs.Mixed.{mixed, unmixed, joined, part}
 
 -- ---- mixing and unmixing
 
@@ -101,3 +101,11 @@ joined-at n (suc count) f h {i} {j} l k = go (eq-or-lt-of-le (le-of-suc-le-suc l
     go (inr b) ih =
         List·getD-append (joined count f) (f count) 0 (i * n + j) (subst (λ (a : ℕ). i * n + j < a) (sym long) (digits-lt b k))
         ∙ ih b k
+
+-- each list is had again from the joined ones
+pub part-joined : (n count : ℕ) (f : ℕ → List ℕ) → ((i : ℕ) → i < count → length (f i) ≡ n) → {i : ℕ} → i < count → part n (joined count f) i ≡ f i
+unfolding part
+part-joined n count f h {i} l =
+    ext-getD 0 (part n (joined count f) i) (f i) (table-length n _ ∙ sym (h i l)) (λ j b.
+    let below : j < n = subst (λ (k : ℕ). j < k) (table-length n _) b in
+    table-at n _ below ∙ joined-at n count f h l below)

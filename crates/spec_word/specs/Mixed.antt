@@ -17,3 +17,7 @@ unmixed n count x m = table n (λ j. getD x (j * count + m) 0)
 unfoldable pub joined : ℕ → (ℕ → List ℕ) → List ℕ
 joined zero f = []
 joined (suc count) f = joined count f ++ f count
+
+-- SCOPE 2.15: list m of lists of n entries that stand in x one after another
+unfoldable pub part : ℕ → List ℕ → ℕ → List ℕ
+part n x m = table n (λ j. getD x (m * n + j) 0)

@@ -2,23 +2,25 @@
 -- Assumes nothing.
 use mathlib.Core.Path.{_≡_, refl, sym, ap, _∙_, subst}
 use mathlib.Core.List.{List, []}
-use Prim.Native.Nat.{ℕ, _*_, _<_}
+use Prim.Native.Nat.{ℕ, pred, _*_, _<_}
+use native.Mathlib.Omega.{arith}
 use lib.Dec.{T}
 use lib.ListN.{length, getD}
-use Rattle.spec_field.specs.Answer.{answer, left}
+use Rattle.spec_field.specs.Field.{FieldOps}
 use Rattle.spec_field.proofs.Refusals.{found-next}
 use Rattle.spec_word.specs.Word.{IsWord}
-use Rattle.spec_word.specs.Mixed.{mixed, unmixed}
-use Rattle.spec_word.proofs.Mixed.{mixed-length, mixed-symbol, unmixed-mixed}
+use Rattle.spec_word.specs.Mixed.{mixed, unmixed, part}
+use Rattle.spec_word.proofs.Mixed.{mixed-length, mixed-symbol, unmixed-mixed, joined-same, part-joined}
+use Rattle.spec_book.specs.Book.{Book}
 use Rattle.spec_book.specs.Layout.{fieldOf, bookOf}
 use Rattle.spec_book.specs.Conditions.{refusal, wordsOk}
 use Rattle.spec_decoding.specs.Decode.{Result}
 use Rattle.spec_decoding.specs.Symmetry.{move, Moved}
-use Rattle.spec_decoding.proofs.Demand3.{moved-word, demand-3}
+use Rattle.spec_decoding.proofs.Demand3.{moved-word, answer-word, demand-3}
 use Rattle.spec_operations.specs.Decoding.{decodeBytes}
-use Rattle.spec_operations.specs.Burst.{burstInputRefusal, burstRefusal, burstWord, answersOf, recordsOf, lastEntries}
-use Rattle.spec_operations.specs.BurstTwice.{BurstSizes, GivenBursts, ShowsBurst, RelatedBursts}
-use Rattle.spec_operations.proofs.Burst.{burst-taken}
+use Rattle.spec_operations.specs.Burst.{burstInputRefusal, burstRefusal, burstWord, recordOf, Bursts}
+use Rattle.spec_operations.specs.BurstTwice.{BurstSizes, GivenBursts, RelatedBursts}
+use Rattle.spec_operations.proofs.Burst.{words-low, burst-taken}
 use Rattle.burst.specs.Said.{said, madeBytes, Answered}
 use Rattle.burst.specs.declared.Burst.{Burst}
 use Rattle.symmetry.proofs.Twice.{symbol-list, is-word}
@@ -51,18 +53,21 @@ module _ (bytes : List ℕ) (e : refusal bytes ≡ 0) (words : ℕ) (count : T (
       ap (λ (x : List ℕ). decodeBytes bytes (unmixed (bookOf bytes .n) words x m)) mixes
       ∙ ap (decodeBytes bytes) (unmixed-mixed (bookOf bytes .n) words w h (word m h .size))
 
+  -- and its answer has n symbols
+  answer-long : (m : ℕ) → m < words → length (burstWord bytes words r m .answer) ≡ bookOf bytes .n
+  answer-long m h =
+      ap (λ (x : Result). length (x .answer)) (word-result h) ∙ answer-word bytes e (w m) (symbol-list bytes e (word m h)) .exact
+
 -- what a burst that is not refused answers, lists and leaves
-shows : (bytes : List ℕ) {number words : ℕ} {x : ℕ → Result} {answers₀ entries₀ answers entries : List ℕ} {b : Burst} → number ≡ 0
-    → Answered number words x answers₀ entries₀ b answers entries → ShowsBurst bytes words x (said b) answers (madeBytes b) entries
-shows bytes {words = words} {x = x} {answers₀ = answers₀} {entries₀ = entries₀} z h =
-    record {
-      answers-done = h .bursts .says ∙ ap (λ (n : ℕ). answer n []) z;
-      answers-are = h .bursts .answers-buffer ∙ ap (λ (n : ℕ). left n (answersOf words x) answers₀) z;
-      records-are = h .bursts .records-list ∙ ap (λ (n : ℕ). left n (recordsOf words x) []) z;
-      entries-are = h .bursts .matrix-buffer ∙ ap (λ (n : ℕ). left n (lastEntries words x) entries₀) z;
-    }
+shows : {number words : ℕ} {x : ℕ → Result} {answers₀ entries₀ answers entries : List ℕ} {b : Burst} → number ≡ 0
+    → Answered number words x answers₀ entries₀ b answers entries → Bursts 0 words x answers₀ [] entries₀ (said b) answers (madeBytes b) entries
+shows {words = words} {x = x} {answers₀ = answers₀} {entries₀ = entries₀} {answers = answers} {entries = entries} {b = b} z h =
+    subst (λ (n : ℕ). Bursts n words x answers₀ [] entries₀ (said b) answers (madeBytes b) entries) z (h .bursts)
 
 -- ---- two bursts
+
+same-record : {F : FieldOps} {B : Book} {t c : ℕ} {v : List ℕ} {x y : Result} → Moved F B t c v x y → recordOf y ≡ recordOf x
+same-record h = rw (h .same-kind, h .same-rounds, h .same-changed) refl
 
 pub related-bursts : (bytes : List ℕ) (words : ℕ) (r r′ answers₀ answers₀′ entries₀ entries₀′ : List ℕ) (list list′ : ℕ)
     {answers entries answers′ entries′ : List ℕ} {b b′ : Burst}
@@ -71,15 +76,24 @@ pub related-bursts : (bytes : List ℕ) (words : ℕ) (r r′ answers₀ answers
     → (w : ℕ → List ℕ) (t c : ℕ → ℕ) (v : ℕ → List ℕ) → GivenBursts bytes words w t c v r r′
     → BurstSizes bytes words (length answers₀) list (length entries₀) → BurstSizes bytes words (length answers₀′) list′ (length entries₀′)
     → RelatedBursts bytes words t c v (said b) (said b′) answers answers′ (madeBytes b) (madeBytes b′) entries entries′
-related-bursts bytes words r r′ answers₀ answers₀′ entries₀ entries₀′ list list′ first second w t c v g sizes sizes′ =
+related-bursts bytes words r r′ answers₀ answers₀′ entries₀ entries₀′ list list′ {answers} {entries} {answers′} {entries′} {b} {b′} first second w t c v g sizes sizes′ =
     record {
-      x = burstWord bytes words r;
-      x′ = burstWord bytes words r′;
-      first = shows bytes (not-refused bytes (g .accepted) words (g .count) w (g .word) (g .first) (length answers₀) list (length entries₀) sizes) first;
-      second = shows bytes (not-refused bytes (g .accepted) words (g .count) w′ word′ (g .second) (length answers₀′) list′ (length entries₀′) sizes′) second;
-      moved = moved;
+      first-done = one .says;
+      second-done = two .says;
+      same-records = two .records-list ∙ joined-same words (λ m h. same-record (moved m h)) ∙ sym (one .records-list);
+      moved-answers = λ m h.
+          ap (λ (x : List ℕ). part n x m) (two .answers-buffer)
+          ∙ part-joined n words _ (answer-long bytes (g .accepted) words (g .count) w′ word′ (g .second)) h
+          ∙ moved m h .moved-answer
+          ∙ ap (move (fieldOf bytes) n (t m) (c m) (v m))
+          (sym (ap (λ (x : List ℕ). part n x m) (one .answers-buffer)
+          ∙ part-joined n words _ (answer-long bytes (g .accepted) words (g .count) w (g .word) (g .first)) h));
+      moved-entries = λ i j hi hj. rw (one .matrix-buffer, two .matrix-buffer) (moved (pred words) last .moved-entries i j hi hj);
     }
   where
+    n : ℕ
+    n = bookOf bytes .n
+
     w′ : ℕ → List ℕ
     w′ m = move (fieldOf bytes) (bookOf bytes .n) (t m) (c m) (v m) (w m)
 
@@ -96,3 +110,12 @@ related-bursts bytes words r r′ answers₀ answers₀′ entries₀ entries₀
         )
         (demand-3 bytes (g .accepted) (t m) (c m) (g .nonzero m h) (g .symbol m h) (v m) (symbol-list bytes (g .accepted) (g .added m h)) (g .code m h) (w m)
         (symbol-list bytes (g .accepted) (g .word m h)))
+
+    one : Bursts 0 words (burstWord bytes words r) answers₀ [] entries₀ (said b) answers (madeBytes b) entries
+    one = shows (not-refused bytes (g .accepted) words (g .count) w (g .word) (g .first) (length answers₀) list (length entries₀) sizes) first
+
+    two : Bursts 0 words (burstWord bytes words r′) answers₀′ [] entries₀′ (said b′) answers′ (madeBytes b′) entries′
+    two = shows (not-refused bytes (g .accepted) words (g .count) w′ word′ (g .second) (length answers₀′) list′ (length entries₀′) sizes′) second
+
+    last : pred words < words
+    last = omega (arith, words-low words (g .count))
