@@ -1,7 +1,7 @@
 /*
  * Measures the library against the transcription (literal.c) and the best C (fast.c, by two compilers, with and without AVX2): whole decodes, checks,
- * rounds, growth, remainders, coding and bursts, these against single decodes in place of the transcription. Every time is the least of many short
- * runs, taken in turns, since the machine may be shared. First all must agree on every word.
+ * rounds, growth, remainders, coding, bursts and games, these two against the library's own calls that would do the same in place of the
+ * transcription. Every time is the least of many short runs, taken in turns, since the machine may be shared. First all must agree on every word.
  *
  *   bench BOOKS OUT                       writes OUT/table.txt, OUT/table.md, OUT/table.csv, OUT/growth.csv
  *   bench words BOOKS BOOK CLASS COUNT    the book and words of a class (clean, one), as decode_stream reads them
@@ -21,7 +21,8 @@
     uint32_t name##_code(const uint8_t *, size_t, const uint8_t *, size_t, uint8_t *, size_t); \
     uint32_t name##_remainder(const uint8_t *, size_t, const uint8_t *, size_t, uint8_t *, size_t); \
     uint32_t name##_decode(const uint8_t *, size_t, const uint8_t *, size_t, uint8_t *, size_t); \
-    uint32_t name##_burst(const uint8_t *, size_t, uint32_t, const uint8_t *, size_t, uint8_t *, size_t, struct shiftsum_record *, size_t);
+    uint32_t name##_burst(const uint8_t *, size_t, uint32_t, const uint8_t *, size_t, uint8_t *, size_t, struct shiftsum_record *, size_t); \
+    uint32_t name##_game(const uint8_t *, size_t, uint32_t, const uint8_t *, size_t, uint8_t *, size_t);
 COMPILED(clang)
 COMPILED(gcc_avx2)
 COMPILED(clang_avx2)
@@ -45,11 +46,15 @@ static const Operation dividing = {"remainders differ", {shiftsum_remainder, lit
                                                          clang_avx2_remainder}};
 static const Operation coding = {"code words differ", {shiftsum_code, literal_code, gcc_code, clang_code, gcc_avx2_code, clang_avx2_code}};
 
-/* M and the count of records of the bursts that follow. A burst is called in the form of the others, its records behind its answers. */
+/* M and the count of records of what follows. Bursts and games are called in the form of the others, a burst's records behind its answers. */
 static uint32_t burst_words;
 static size_t burst_records;
 
 #define BURSTS(name) \
+    static uint32_t name##_taken(const uint8_t *book, size_t len, const uint8_t *received, size_t in, uint8_t *messages, size_t out) \
+    { \
+        return name##_game(book, len, burst_words, received, in, messages, out); \
+    } \
     static uint32_t name##_mixed(const uint8_t *book, size_t len, const uint8_t *received, size_t in, uint8_t *output, size_t out) \
     { \
         const size_t answers = out - RECORD * burst_records; \
@@ -74,8 +79,24 @@ static uint32_t singly(const uint8_t *book, size_t len, const uint8_t *received,
     return 0;
 }
 
-/* Bursts are held to the library's single decodes where other calls are held to the transcription. */
+/* A game that is not refused by a burst and, where none of its words is held, a read of each. */
+static uint32_t burst_and_reads(const uint8_t *book, size_t len, const uint8_t *received, size_t in, uint8_t *messages, size_t out)
+{
+    const size_t n = in / burst_words, k = out / burst_words;
+    struct shiftsum_record records[BURST];
+    uint8_t answers[LONGEST_BURST];
+    uint32_t held = 0;
+    shiftsum_burst(book, len, burst_words, received, in, answers, in, records, burst_words);
+    for (size_t m = 0; m < burst_words; m++)
+        held += records[m].kind == SHIFTSUM_STALLED || records[m].kind == SHIFTSUM_SPENT;
+    for (size_t m = 0; m < burst_words && held == 0; m++)
+        shiftsum_read(book, len, answers + m * n, n, messages + m * k, k);
+    return held << 8 | (uint32_t)(held > 0 ? SHIFTSUM_HELD : SHIFTSUM_WHOLE) << 24;
+}
+
+/* Bursts are held to the library's single decodes, and games to its bursts and reads, where other calls are held to the transcription. */
 static const Operation mixing = {"bursts differ", {shiftsum_mixed, singly, gcc_mixed, clang_mixed, gcc_avx2_mixed, clang_avx2_mixed}};
+static const Operation taking = {"games differ", {shiftsum_taken, burst_and_reads, gcc_taken, clang_taken, gcc_avx2_taken, clang_avx2_taken}};
 static const char *const class_names[CLASSES] = {"clean", "one round", "most rounds"};
 
 /* Width is the length of a body, SHORT or LONG. */
@@ -240,11 +261,11 @@ static void measure(const Book *b, const Class *c, double budget, double *least)
         times[w] = t < 40 ? ((long)(40 / t) / words + 1) * words : words;
         least[w] = t;
     }
-    slow = least[LITERAL] > 4000;
-    for (int i = 0; i < 2 && slow && least[LITERAL] < 5e5; i++) {
+    for (int i = 0; i < 2 && least[LITERAL] > 4000 && least[LITERAL] < 5e5; i++) {
         double t = run(b, c, LITERAL, 1);
         least[LITERAL] = t < least[LITERAL] ? t : least[LITERAL];
     }
+    slow = least[LITERAL] > 4000;
     for (int w = 0; w < ways; w++)
         least[w] = w == LITERAL && slow ? least[w] : 1e18;
     for (int turn = 0; turn < LEAST_TURNS || microseconds() - start < budget; turn++)
@@ -256,7 +277,7 @@ static void measure(const Book *b, const Class *c, double budget, double *least)
 
 static FILE *text, *markdown, *csv, *growth;
 
-/* Held: what the library is held to, the transcription or single decodes; it has the second place among the ways. */
+/* Held: what the library is held to, the transcription or its own other calls; it has the second place among the ways. */
 static void heading(const char *title, const char *first, const char *second, const char *held)
 {
     fprintf(text, "\n%s\n%-12s %-18s %10s  /%-7s %9s %9s %9s\n", title, first, second, "ours, us", held, "/gcc", "/clang", "/AVX2");
@@ -528,41 +549,48 @@ static void put_word(const Book *b, size_t words, size_t m, const uint8_t *word,
     memcpy(burst + (words + m) * b->n, word, b->n);
 }
 
-/* A burst that is refused by the number; it has no words singly. */
-static void refused(const Book *b, uint32_t words, const uint8_t *burst, size_t in, size_t answers, size_t records, uint32_t number)
+/* The bytes that are made of so many words: of a burst answers and records, of a game messages. */
+static size_t made_of(const Operation *o, const Book *b, size_t words)
 {
-    burst_words = words;
-    burst_records = records;
-    if (agreed(&mixing, b, burst, in, answers + RECORD * records, 0) != number)
-        fail("a burst is refused by another number", b->name);
+    return words * (o == &mixing ? b->n + RECORD : b->k);
 }
 
-/* Bursts of every M, with words of up to seven errors, and the same refused by a size, a symbol or M. */
-static void bursts_agree(const Book *b)
+/* Refused by the number, and so not tried by the library's other calls. */
+static void refused(const Operation *o, const Book *b, uint32_t words, const uint8_t *burst, size_t in, size_t out, uint32_t number)
+{
+    burst_words = words;
+    if (agreed(o, b, burst, in, out, 0) != number)
+        fail("refused by another number", b->name);
+}
+
+/* Bursts or games of every M, with words of up to seven errors, games also of up to one, and the same refused by a size, a symbol or M. */
+static void bursts_agree(const Operation *o, const Book *b)
 {
     static const uint32_t wrong[] = {0, BURST + 1, 256 + BURST, UINT32_MAX};
     uint8_t word[LONGEST_WORD], burst[2 * LONGEST_BURST];
     for (uint32_t i = 0; i < 4 * BURST; i++) {
         const uint32_t words = 1 + i % BURST;
-        const size_t in = words * b->n;
+        const size_t in = words * b->n, out = made_of(o, b, words);
         for (size_t m = 0; m < words; m++) {
-            make_word(b, (int)(random64() % 8), word);
+            make_word(b, (int)(random64() % (o == &taking && i < 2 * BURST ? 2 : 8)), word);
             put_word(b, words, m, word, burst);
         }
         burst_words = words;
         burst_records = words;
-        agreed(&mixing, b, burst, in, in + RECORD * words, 1);
-        refused(b, words, burst, in - 1, in, words, 9);
-        refused(b, words, burst, in, in - 1, words, 10);
-        refused(b, words, burst, in, in, words + 1, 10);
+        agreed(o, b, burst, in, out, 1);
+        refused(o, b, words, burst, in - 1, out, 9);
+        refused(o, b, words, burst, in, out - 1, 10);
+        burst_records = words + 1;
+        refused(o, b, words, burst, in, made_of(o, b, words) + RECORD, 10);
+        burst_records = words;
         burst[random64() % in] |= (uint8_t)b->q;
-        refused(b, words, burst, in, in, words, 11);
-        refused(b, wrong[i % 4], burst, in, in, words, 14);
+        refused(o, b, words, burst, in, out, 11);
+        refused(o, b, wrong[i % 4], burst, in, out, 14);
     }
 }
 
-/* A burst of words of a class. */
-static void draw_burst(const Book *b, int class, size_t words, Class *c)
+/* A burst or a game of words of a class. */
+static void draw_burst(const Operation *o, const Book *b, int class, size_t words, Class *c)
 {
     Class few;
     for (size_t m = 0; m < words; m++) {
@@ -570,35 +598,45 @@ static void draw_burst(const Book *b, int class, size_t words, Class *c)
             find(b, class, 4000, &few);
         put_word(b, words, m, few.word[m % (size_t)few.count], c->word[0]);
     }
-    c->operation = &mixing;
+    c->operation = o;
     c->count = 1;
     c->in = words * b->n;
-    c->out = words * (b->n + RECORD);
+    c->out = made_of(o, b, words);
     burst_words = (uint32_t)words;
     burst_records = words;
-    agreed(&mixing, b, c->word[0], c->in, c->out, 1);
+    if (SHIFTSUM_REFUSAL(agreed(o, b, c->word[0], c->in, c->out, 1)) != 0)
+        fail("refused", b->name);
 }
 
-/* Bursts of the most words, and of one. Last of all, so that no other row has other words for it. */
-static void whole_bursts(const char *folder)
+/* Bursts or games of the most words, and of one. Last of all, so that no other row has other words for them. */
+static void burst_rows(const Operation *o, const char *folder, const char *const *labels)
 {
     static const size_t counts[2] = {BURST, 1};
-    static const char *const labels[2][2] = {{"16 clean", "16 mended"}, {"1 clean", "1 mended"}};
     double t[WAYS];
-    heading("Bursts over the C boundary, the book checked once; singly: the library's decodes of the same words, the book checked in each", "book",
-            "words", "singly");
     for (int i = 0; i < BOOKS; i++) {
         Book b;
         Class c;
         uint64_t kept = begin(&b, folder, books[i]);
-        bursts_agree(&b);
+        bursts_agree(o, &b);
         for (int j = 0; j < 4; j++) {
-            draw_burst(&b, j % 2 ? ONE_ROUND : CLEAN, counts[j / 2], &c);
+            draw_burst(o, &b, j % 2 ? ONE_ROUND : CLEAN, counts[j / 2], &c);
             measure(&b, &c, 4e5, t);
-            row(books[i], labels[j / 2][j % 2], t);
+            row(books[i], labels[j], t);
         }
         end(&b, kept);
     }
+}
+
+static void whole_bursts(const char *folder)
+{
+    static const char *const bursts[] = {"16 clean", "16 mended", "1 clean", "1 mended"};
+    static const char *const games[] = {"game of 16 clean", "game of 16 mended", "game of 1 clean", "game of 1 mended"};
+    heading("Bursts over the C boundary, the book checked once; singly: the library's decodes of the same words, the book checked in each", "book",
+            "words", "singly");
+    burst_rows(&mixing, folder, bursts);
+    heading("Games over the C boundary, the book checked once; apart: the library's burst and reads of the same words, the book checked in each",
+            "book", "words", "apart");
+    burst_rows(&taking, folder, games);
 }
 
 /* A round's time for each way, and divided by L * weight * n, which should hardly change. */

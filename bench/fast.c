@@ -10,6 +10,7 @@
  *     and turning by h are one offset, and counting is a sum of rows of bytes;
  *   - for p 6 the counts are scattered instead, dividing again being an offset of rows in the order of logarithms;
  *   - "g divides" is asked of k or n - k places of one product, not by division;
+ *   - a code word is read by the same product, which is with h = (x^n - 1) / g: its first k places, nothing turned round, are the message;
  *   - a remainder is left by a shift register whose cells stand in p numbers, a digit each;
  *   - a message is coded by products of numbers, a digit of all symbols in each, for p 1 and 2 in short books, and else as a sum of multiples of g at
  *     offsets;
@@ -63,7 +64,7 @@ typedef struct {
     uint16_t scatter[SCATTER] ALIGNED;
     uint8_t h[ROOM]; /* (x^n - 1) / g */
     uint64_t turns[LIMBS == 1 ? 256 : 3 * ROW / 8], stream[2][STREAM * LIMBS] ALIGNED; /* for p 1 and 2 */
-    uint64_t products[BATCH][3 * ROW / 8]; /* for p 1 and 2 where there are several limbs */
+    uint64_t products[BATCH][3 * ROW / 8]; /* for p 1 and 2 where there are several limbs; where there is one, a word's product with h */
     uint64_t steps[SYMBOLS][6][LIMBS]; /* for p 4 to 6: what a step of the shift register subtracts, by the symbol that falls out */
 } Fast;
 
@@ -326,12 +327,17 @@ INLINE int packed_products(const Fast *f, const uint8_t *g, const int p, const i
     return zero_below(left, f->k, LIMBS == 1 ? vecs : (f->k + VB - 1) / VB);
 }
 
-/* The multiples of g, behind k - 1 zeros, so that an offset turns them. */
+/* The multiples of a factor of so many places, behind k - 1 zeros, so that an offset turns them. */
+static void factor_rows(const Fast *f, const uint8_t *factor, int places, uint8_t *rows)
+{
+    memset(rows, 0, 2 * ROW);
+    memcpy(rows + ROW + f->k - 1, factor, (size_t)places);
+    multiply(rows, f->q, polynomials[f->p], 2 * f->vecs);
+}
+
 static void generator_rows(Fast *f, const uint8_t *g)
 {
-    memset(f->multiples, 0, 2 * ROW);
-    memcpy(f->multiples + ROW + f->k - 1, g, (size_t)f->d + 1);
-    multiply(f->multiples, f->q, polynomials[f->p], 2 * f->vecs);
+    factor_rows(f, g, f->d + 1, f->multiples);
 }
 
 /* The nonzero places of a limb of a dual word, as the bits of a number; what its lowest bit is the place of. */
@@ -918,7 +924,8 @@ INLINE uint32_t bit_term(uint32_t u, int symbol, const int p)
     return (p == 2 ? both[symbol] : 0) + u * (p == 2 ? 0x10004u : 0x10001u);
 }
 
-INLINE int test_bits(const Fast *f, const Bits *r, const int p)
+/* Leaves the product, whose first k places are a code word's message. */
+INLINE int test_bits(Fast *f, const Bits *r, const int p)
 {
     uint64_t s[4], y[2] = {0}, digit[2] = {r->digit[0][0], r->digit[1][0]};
     spread(digit, p, s);
@@ -930,6 +937,8 @@ INLINE int test_bits(const Fast *f, const Bits *r, const int p)
             for (int i = 0; i < 2 && c; i++)
                 y[i] ^= s[c - 1 + i] << t;
     }
+    f->products[0][0] = y[0];
+    f->products[0][1] = y[1];
     return ((y[0] | y[1]) << (64 - f->n) >> (64 - f->d)) == 0;
 }
 
@@ -988,16 +997,17 @@ INLINE int stream_words(Fast *f, const Bits *r, const int p)
 #else
 /*
  * A turn of several limbs is a load: a row of bits stands twice over, and that eight times, moved down by 0 to 7 places. For p 2 there are such copies,
- * each a row of bytes long, of three rows; the digits of the multiples by 1, 2 and 3 are neighbours among them, the first being the last one's.
+ * each a row of bytes long, of three rows; the digits of the multiples by 1, 2 and 3 are neighbours among them, the first being the last one's. Where
+ * nothing is to come round, zeros stand for the first of the two.
  */
 typedef uint64_t Part __attribute__((vector_size(ROOM / 8 < VB ? ROOM / 8 : VB), aligned(1), may_alias));
 enum { PARTS = ROOM / 8 / sizeof(Part) };
 
-INLINE void lay_bits(const uint64_t *w, uint64_t *out)
+INLINE void lay_bits(const uint64_t *w, const int once, uint64_t *out)
 {
     uint64_t twice[2 * LIMBS + 1];
     for (int i = 0; i < LIMBS; i++) {
-        twice[i] = w[i];
+        twice[i] = once ? 0 : w[i];
         twice[LIMBS + i] = w[i] >> 1 | (i + 1 < LIMBS ? w[i + 1] << 63 : 0);
     }
     twice[LIMBS - 1] |= w[0] << 63;
@@ -1015,7 +1025,7 @@ INLINE void lay_bits(const uint64_t *w, uint64_t *out)
 }
 
 /* As a limb's spread, of copies. */
-INLINE void spread_bits(const Fast *f, const Bits *r, const int p, uint64_t *out)
+INLINE void spread_bits(const Fast *f, const Bits *r, const int p, const int once, uint64_t *out)
 {
     uint64_t w[3][LIMBS];
     for (int i = 0; i < LIMBS; i++) {
@@ -1024,7 +1034,7 @@ INLINE void spread_bits(const Fast *f, const Bits *r, const int p, uint64_t *out
         w[2][i] = w[0][i] ^ w[1][i];
     }
     for (int a = 0; a < (p == 2 ? 3 : 1); a++)
-        lay_bits(w[a], out + a * ROW / 8);
+        lay_bits(w[a], once, out + a * ROW / 8);
 }
 
 /* Where a digit of a turned multiple is, the lower one's place being given. */
@@ -1041,7 +1051,7 @@ INLINE uint32_t bit_term(uint32_t u, int symbol, const int p)
 
 INLINE void turn_bits(Fast *f, const Bits *r, const int p)
 {
-    spread_bits(f, r, p, f->turns);
+    spread_bits(f, r, p, 0, f->turns);
 }
 
 /* Adds the digits of a turned multiple, or none of them. */
@@ -1059,15 +1069,21 @@ INLINE Bits bits_of(Part (*sum)[PARTS])
     return w;
 }
 
+/* The product with h of the word whose turns are given. */
+INLINE Bits test_product(const Fast *f, const uint64_t *turns, const int p)
+{
+    Part sum[2][PARTS] = {{{0}}};
+    for (int t = 0; t < f->terms; t++)
+        add_turned(turns, f->test_at[t], ~(uint64_t)0, p, sum);
+    return bits_of(sum);
+}
+
 /* Leaves the turns of the word, which the products read. */
 INLINE int test_bits(Fast *f, const Bits *r, const int p)
 {
-    Part sum[2][PARTS] = {{{0}}};
     uint64_t left = 0;
     turn_bits(f, r, p);
-    for (int t = 0; t < f->terms; t++)
-        add_turned(f->turns, f->test_at[t], ~(uint64_t)0, p, sum);
-    Bits y = bits_of(sum);
+    Bits y = test_product(f, f->turns, p);
     for (int i = 0; i < LIMBS; i++)
         left |= (y.digit[0][i] | y.digit[1][i]) & places_of(f, i);
     return left == 0;
@@ -1080,7 +1096,7 @@ INLINE void product_bits(const Fast *f, const Term *terms, const int p, uint64_t
     for (int i = 0; i < f->weight; i++)
         add_turned(f->turns, terms[i].sum_at, ~(uint64_t)0, p, sum);
     Bits w = bits_of(sum);
-    spread_bits(f, &w, p, out);
+    spread_bits(f, &w, p, 0, out);
 }
 
 /* As for one limb. Some products are made before any is read, since a load that spans two fresh stores waits. */
@@ -1500,6 +1516,13 @@ INLINE void code_bits(const int p, Fast *f, const uint8_t *message, int length, 
     }
     put_symbols(p, digit, f->n, word);
 }
+
+/* The test has left the product. */
+INLINE void read_bits(const int p, Fast *f, const uint8_t *word, uint8_t *message)
+{
+    (void)word;
+    put_symbols(p, (uint64_t (*)[LIMBS])f->products[0], f->k, message);
+}
 #else
 /* The same as a sum of turns. What is read behind g is no place. */
 INLINE void code_bits(const int p, Fast *f, const uint8_t *message, int length, uint8_t *word)
@@ -1512,18 +1535,36 @@ INLINE void code_bits(const int p, Fast *f, const uint8_t *message, int length, 
     bits = bits_of(sum);
     put_symbols(p, bits.digit, f->n, word);
 }
+
+INLINE void read_bits(const int p, Fast *f, const uint8_t *word, uint8_t *message)
+{
+    uint64_t turns[3 * ROW / 8];
+    Bits bits = load_bits(word, p);
+    spread_bits(f, &bits, p, 1, turns);
+    bits = test_product(f, turns, p);
+    put_symbols(p, bits.digit, f->k, message);
+}
 #endif
 
-/* Message times g, as a sum of multiples of g, each turned by its place in the message. */
-INLINE void code_rows(const Fast *f, const uint8_t *message, int length, const int vecs, uint8_t *word)
+/* Symbols times the factor whose rows are given, as a sum of its multiples, each turned by the symbol's place. */
+INLINE void code_rows(const Fast *f, const uint8_t *rows, const uint8_t *message, int length, const int vecs, uint8_t *word)
 {
     for (int c = 0; c < vecs; c += CHUNK) {
         Vec sum[CHUNK] = {{0}};
         for (int u = 0; u < length; u++)
             for (int v = 0; v < CHUNK && v < vecs; v++)
-                sum[v] ^= get(f->multiples + message[u] * ROW + f->k - 1 - u + (c + v) * VB);
+                sum[v] ^= get(rows + message[u] * ROW + f->k - 1 - u + (c + v) * VB);
         for (int v = 0; v < CHUNK && v < vecs; v++)
             put(word + (c + v) * VB, sum[v]);
+    }
+}
+
+static void sum_multiples(const Fast *f, const uint8_t *rows, const uint8_t *message, int length, uint8_t *word)
+{
+    switch (f->vecs) {
+    case 1: code_rows(f, rows, message, length, 1, word); break;
+    case 2: code_rows(f, rows, message, length, 2, word); break;
+    default: code_rows(f, rows, message, length, WORD, word); break;
     }
 }
 
@@ -1532,10 +1573,19 @@ static void code_symbols(Fast *f, const uint8_t *message, int length, uint8_t *w
 {
     if (f->p <= 3)
         generator_rows(f, f->book + AT_G);
-    switch (f->vecs) {
-    case 1: code_rows(f, message, length, 1, word); break;
-    case 2: code_rows(f, message, length, 2, word); break;
-    default: code_rows(f, message, length, WORD, word); break;
+    sum_multiples(f, f->multiples, message, length, word);
+}
+
+/* The message of the code word that was decoded last. From p 3 on it takes the multiples of h, made for the first one. */
+static void read_word(Fast *f, const uint8_t *word, uint8_t *rows, int first, uint8_t *message)
+{
+    switch (f->p) {
+    case 1: read_bits(1, f, word, message); break;
+    case 2: read_bits(2, f, word, message); break;
+    default:
+        if (first)
+            factor_rows(f, f->h, f->k, rows);
+        sum_multiples(f, rows, word, f->k, message);
     }
 }
 
@@ -1584,6 +1634,32 @@ static int has_large(const Fast *f, const uint8_t *given, size_t length)
     return (bits & ~(f->q - 1)) != 0;
 }
 
+INLINE void unmix(const uint8_t *received, size_t n, const size_t words, uint8_t (*apart)[ROOM])
+{
+    for (size_t j = 0; j < n; j++)
+        for (size_t m = 0; m < words; m++)
+            apart[m][j] = *received++;
+}
+
+/* The words of a burst, no longer mixed, or its refusal behind those of the book; whether the outputs fit is given. */
+static unsigned take_burst(const Fast *f, uint32_t words, const uint8_t *received, size_t received_len, int fit, uint8_t (*apart)[ROOM])
+{
+    size_t n = (size_t)f->n;
+    if (words < 1 || words > SHIFTSUM_BURST_MAX)
+        return 14;
+    if (received_len != n * words)
+        return 9;
+    if (!fit)
+        return 10;
+    if (has_large(f, received, received_len))
+        return 11;
+    if (words == SHIFTSUM_BURST_MAX) /* a loop whose length the compiler knows */
+        unmix(received, n, SHIFTSUM_BURST_MAX, apart);
+    else
+        unmix(received, n, words, apart);
+    return 0;
+}
+
 /* The book is checked once, and its terms are listed once, by the first word that needs them. */
 uint32_t SIZED(burst)(const uint8_t *book, size_t book_len, uint32_t words, const uint8_t *received, size_t received_len, uint8_t *answers,
                       size_t answers_len, struct shiftsum_record *records, size_t records_len)
@@ -1595,22 +1671,42 @@ uint32_t SIZED(burst)(const uint8_t *book, size_t book_len, uint32_t words, cons
     if (number)
         return number;
     size_t n = (size_t)f.n;
-    if (words < 1 || words > SHIFTSUM_BURST_MAX)
-        return 14;
-    if (received_len != n * words)
-        return 9;
-    if (answers_len != n * words || records_len != words)
-        return 10;
-    if (has_large(&f, received, received_len))
-        return 11;
-    for (size_t j = 0; j < n; j++)
-        for (size_t m = 0; m < words; m++)
-            apart[m][j] = *received++;
+    number = take_burst(&f, words, received, received_len, answers_len == n * words && records_len == words, apart);
+    if (number)
+        return number;
     for (size_t m = 0; m < words; m++) {
         uint32_t r = decode_word(&f, apart[m], &ready, answers + m * n);
         records[m] = (struct shiftsum_record){(uint8_t)SHIFTSUM_KIND(r), (uint8_t)SHIFTSUM_ROUNDS(r), (uint8_t)SHIFTSUM_CHANGED(r)};
     }
     return 0;
+}
+
+/* Messages are kept apart until no word is left that may be held. */
+uint32_t SIZED(game)(const uint8_t *book, size_t book_len, uint32_t words, const uint8_t *received, size_t received_len, uint8_t *messages,
+                     size_t messages_len)
+{
+    Fast f;
+    uint8_t apart[SHIFTSUM_BURST_MAX][ROOM], read[SHIFTSUM_BURST_MAX][ROOM], answer[ROOM] ALIGNED = {0}, rows[SYMBOLS * ROW] ALIGNED;
+    uint32_t held = 0;
+    int ready = 0;
+    unsigned number = refusal(&f, book, book_len);
+    if (number)
+        return number;
+    size_t k = (size_t)f.k;
+    number = take_burst(&f, words, received, received_len, messages_len == k * words, apart);
+    if (number)
+        return number;
+    for (size_t m = 0; m < words; m++) {
+        char kind = SHIFTSUM_KIND(decode_word(&f, apart[m], &ready, answer));
+        held += kind == SHIFTSUM_STALLED || kind == SHIFTSUM_SPENT;
+        if (held == 0)
+            read_word(&f, answer, rows, m == 0, read[m]);
+    }
+    if (held > 0)
+        return held << 8 | (uint32_t)SHIFTSUM_HELD << 24;
+    for (size_t m = 0; m < words; m++)
+        memcpy(messages + m * k, read[m], k);
+    return (uint32_t)SHIFTSUM_WHOLE << 24;
 }
 
 typedef struct {

@@ -23,6 +23,8 @@ uint32_t FAST(remainder)(const uint8_t *book, size_t book_len, const uint8_t *wo
 uint32_t FAST(decode)(const uint8_t *book, size_t book_len, const uint8_t *received, size_t received_len, uint8_t *answer, size_t answer_len);
 uint32_t FAST(burst)(const uint8_t *book, size_t book_len, uint32_t words, const uint8_t *received, size_t received_len, uint8_t *answers,
                      size_t answers_len, struct shiftsum_record *records, size_t records_len);
+uint32_t FAST(game)(const uint8_t *book, size_t book_len, uint32_t words, const uint8_t *received, size_t received_len, uint8_t *messages,
+                    size_t messages_len);
 
 /* A book checked once, for many words: room for the struct of fast.c. */
 size_t FAST(room)(void);

@@ -8,6 +8,7 @@
     uint32_t FAST_SIZED(size, decode)(const uint8_t *, size_t, const uint8_t *, size_t, uint8_t *, size_t); \
     uint32_t FAST_SIZED(size, burst)(const uint8_t *, size_t, uint32_t, const uint8_t *, size_t, uint8_t *, size_t, struct shiftsum_record *, \
                                      size_t); \
+    uint32_t FAST_SIZED(size, game)(const uint8_t *, size_t, uint32_t, const uint8_t *, size_t, uint8_t *, size_t); \
     size_t FAST_SIZED(size, room)(void); \
     uint32_t FAST_SIZED(size, open)(void *, const uint8_t *, size_t); \
     uint32_t FAST_SIZED(size, next)(void *, const uint8_t *, uint8_t *); \
@@ -48,6 +49,12 @@ uint32_t FAST(burst)(const uint8_t *book, size_t book_len, uint32_t words, const
                      size_t answers_len, struct shiftsum_record *records, size_t records_len)
 {
     return CHOSEN(room_of(book, book_len), burst, book, book_len, words, received, received_len, answers, answers_len, records, records_len);
+}
+
+uint32_t FAST(game)(const uint8_t *book, size_t book_len, uint32_t words, const uint8_t *received, size_t received_len, uint8_t *messages,
+                    size_t messages_len)
+{
+    return CHOSEN(room_of(book, book_len), game, book, book_len, words, received, received_len, messages, messages_len);
 }
 
 /* An opened book's room begins with its number, in a line of its own. */

@@ -4,10 +4,12 @@
  *     desk BOOK
  *
  * The lane, the radio and the server are played by this file: the lane codes its frames and mixes their words, the radio damages the burst in a way
- * that every run repeats, and the server has four of the ten frames, one of them wrong. What a desk does with a received burst is in merge.c.
+ * that every run repeats, and the server has four of the ten frames, one of them wrong. What a desk does with a received burst is in merge.c: it
+ * takes the game whole or holds it whole. The lane sends its game again until it is taken, and the last time the radio does little damage.
  *
  * A contactor's spark spoils a dozen symbols in a row. In a burst these are of all ten words, two of each at most. In words that are sent one after
- * another they are of one word, or of two or three that lie together. Both are shown, with the same spark.
+ * another they are of one word, or of two or three that lie together. Both are shown, with the same spark. Words that came one after another the desk
+ * lays out as a burst, so that their game too is taken whole or held whole.
  *
  * The lane hands over only the symbols that a frame fills, since an open frame fills few. Its word has n symbols all the same, and the desk reads all
  * k symbols from it, the zeros that were not handed over as well.
@@ -32,22 +34,31 @@ static const struct server_frame {
     struct frame frame;
 } server_frames[] = {{0, {{10, 0, 0}}}, {1, {{7, 3, 0}}}, {2, {{6, 0, 0}}}, {5, {{10, 0, 0}}}};
 
-/* What the radio does to a burst: it loses the end, makes the last symbol one that no book has, or has the spark in it. */
-enum fault { CUT, BAD_SYMBOL, SPARK };
-static const enum fault sendings[] = {CUT, BAD_SYMBOL, SPARK};
+/* What the radio does to one sending after another: it loses the end, makes the last symbol one that no book has, has the spark in it, and at last
+ * spoils one symbol alone. */
+enum fault { CUT, BAD_SYMBOL, SPARK, ONE_SYMBOL, FAULTS };
 
-enum { SENDINGS = sizeof sendings / sizeof sendings[0], SERVER_FRAMES = sizeof server_frames / sizeof server_frames[0], DOZEN = 12, TEXT = 64 };
+enum { SERVER_FRAMES = sizeof server_frames / sizeof server_frames[0], DOZEN = 12, TEXT = 64 };
 
 struct delivery {
     size_t len;
     uint8_t bytes[RAW_MAX];
 };
 
+/* A game that the lane sends, what the desk got of each sending, and what it made of it. */
+struct play {
+    enum fault first; /* of the first sending; the others follow in order */
+    size_t count;     /* of the sendings */
+    struct delivery deliveries[FAULTS];
+    struct game game;
+};
+
+/* In eight columns; a dash where there is no frame. */
 static void print_frame(const struct book *book, const struct frame *frame)
 {
     unsigned i;
-    int width = 0;
-    for (i = 0; i < frame_balls(book); i++)
+    int width = frame == NULL ? printf("-") : 0;
+    for (i = 0; i < frame_balls(book) && frame != NULL; i++)
         width += printf("%u ", frame->pins[i]);
     printf("%*s", 8 - width, "");
 }
@@ -60,40 +71,48 @@ static size_t lane_code(const struct book *book, unsigned number, uint8_t *word)
     return shiftsum_code(book->bytes, book->len, message, filled, word, book->n) == 0 ? filled : 0;
 }
 
-/* The lane's ten words: mixed, symbol j of word m at place 10 j + m, or one after another. */
-static int lane_send(const struct book *book, int mixed, uint8_t *symbols)
+/* The lane's ten words, one after another. */
+static int lane_words(const struct book *book, uint8_t *row)
 {
-    uint8_t word[SHIFTSUM_WORD_MAX];
     unsigned m;
-    size_t j;
-    for (m = 0; m < FRAMES; m++) {
-        if (lane_code(book, m, word) == 0)
+    for (m = 0; m < FRAMES; m++)
+        if (lane_code(book, m, row + m * book->n) == 0)
             return 0;
-        for (j = 0; j < book->n; j++)
-            symbols[mixed ? j * FRAMES + m : m * book->n + j] = word[j];
-    }
     return 1;
 }
 
-/* Spoils the same places in the same way, mixed or not. In words one after another it begins in the last third of the fourth. */
-static void spark(const struct book *book, uint8_t *symbols)
+/* Spoils so many symbols in a row: the same places in the same way, mixed or not. In words one after another it begins in the last third of the
+ * fourth. */
+static void spoil(const struct book *book, uint8_t *symbols, size_t count)
 {
     uint32_t state = 20;
-    noise_damage(&state, symbols + 3 * book->n + 2 * book->n / 3, DOZEN, 1u << book->p, DOZEN);
+    noise_damage(&state, symbols + 3 * book->n + 2 * book->n / 3, count, 1u << book->p, count);
 }
 
-/* The lane sends the game as a burst, and the radio delivers what it makes of it. */
-static int transmit(const struct book *book, enum fault fault, struct delivery *delivery)
+static void radio(const struct book *book, enum fault fault, uint8_t *symbols, size_t *len)
 {
-    delivery->len = FRAMES * book->n;
-    if (!lane_send(book, 1, delivery->bytes))
-        return 0;
     if (fault == CUT)
-        delivery->len -= 2;
+        *len -= 2;
     if (fault == BAD_SYMBOL)
-        delivery->bytes[delivery->len - 1] = 0xff;
+        symbols[*len - 1] = 0xff;
     if (fault == SPARK)
-        spark(book, delivery->bytes);
+        spoil(book, symbols, DOZEN);
+    if (fault == ONE_SYMBOL)
+        spoil(book, symbols, 1);
+}
+
+/* The lane sends its game, and the desk gets a burst: mixed by the lane, before the radio does its damage, or by the desk, after it. */
+static int transmit(const struct book *book, int mixed, enum fault fault, struct delivery *delivery)
+{
+    uint8_t row[RAW_MAX];
+    delivery->len = FRAMES * book->n;
+    if (!lane_words(book, row))
+        return 0;
+    if (!mixed)
+        radio(book, fault, row, &delivery->len);
+    merge_mix(book, row, delivery->bytes);
+    if (mixed)
+        radio(book, fault, delivery->bytes, &delivery->len);
     return 1;
 }
 
@@ -112,92 +131,123 @@ static void print_answer(const struct shiftsum_record *record)
 }
 
 /* A Mended word may be another word than the one sent. Where no other frame confirms it, the desk says so. */
-static int unconfirmed(const struct word *word)
+static int unconfirmed(const struct held *held, unsigned m)
 {
-    return word->verdict == TAKEN && word->record.kind == SHIFTSUM_MENDED;
+    return held->verdicts[m] == TAKEN && held->records[m].kind == SHIFTSUM_MENDED;
 }
 
-static const char *verdict_text(const struct word *word)
+static const char *verdict_text(const struct held *held, unsigned m)
 {
-    switch (word->verdict) {
-    case TAKEN:
-        return unconfirmed(word) ? "taken, UNCONFIRMED: mended, and there was no frame" : "taken: there was no frame";
-    case AGREED:
-        return "agrees with the frame that stands";
-    case DISPUTED:
-        return "OPEN: differs from the frame that stands";
-    case IMPOSSIBLE:
-        return "OPEN: a code word, but no lane sends such a frame";
-    case UNREACHED:
-        return "OPEN: no code word was reached";
+    switch (held->verdicts[m]) {
     case REFUSED:
         return "OPEN: the burst was refused";
+    case UNREACHED:
+        return "OPEN: no code word was reached";
+    case IMPOSSIBLE:
+        return "OPEN: a code word, but no lane sends such a frame";
+    case WITHHELD:
+        return "OPEN: held with its game";
+    case TAKEN:
+        return unconfirmed(held, m) ? "taken, UNCONFIRMED: mended, and there was no frame" : "taken: there was no frame";
+    case AGREED:
+        return "agrees with the frame that stood";
+    case DISPUTED:
+        return "OPEN: differs from the frame that stood";
     }
     return "";
 }
 
 static void print_word(const struct book *book, const struct held *held, unsigned m)
 {
-    const struct word *word = &held->words[m];
-    const unsigned number = held->first + m;
+    const enum verdict verdict = held->verdicts[m];
     uint8_t sent[SHIFTSUM_WORD_MAX];
-    size_t filled = lane_code(book, number, sent), j, hit = 0;
+    size_t filled = lane_code(book, m, sent), j, hit = 0;
     for (j = 0; j < book->n && filled > 0; j++)
         hit += sent[j] != merge_raw(held, m, j);
-    printf("%5u  ", number + 1);
-    print_frame(book, &lane_frames[number]);
+    printf("%5u  ", m + 1);
+    print_frame(book, &lane_frames[m]);
     printf("%7zu  %3zu  ", filled, hit);
-    print_answer(&word->record);
-    if (word->verdict == TAKEN || word->verdict == AGREED || word->verdict == DISPUTED)
-        print_frame(book, &word->frame);
+    print_answer(&held->records[m]);
+    print_frame(book, verdict == TAKEN || verdict == AGREED || verdict == DISPUTED ? &held->frames[m] : NULL);
+    printf("%s\n", verdict_text(held, m));
+}
+
+static const char *whose(const struct game *game, unsigned number)
+{
+    if (game->taken)
+        return "lane's";
+    return game->told[number] ? "server's" : "nobody's";
+}
+
+/* What became of a burst: in short, then word by word, then what the game is after it. */
+static void print_burst(const struct book *book, const struct game *game, const struct held *held)
+{
+    unsigned m, told = 0;
+    if (SHIFTSUM_REFUSAL(held->result) != 0) {
+        printf("refused, %u\n", SHIFTSUM_REFUSAL(held->result));
+        return;
+    }
+    if (SHIFTSUM_KIND(held->result) == SHIFTSUM_HELD)
+        printf("Held, %u of %d words not reached\n", SHIFTSUM_HELD_WORDS(held->result), FRAMES);
     else
-        printf("%-8s", "-");
-    printf("%s\n", verdict_text(word));
+        printf("Whole, %s\n", held->taken ? "taken" : "but not taken");
+    printf("frame  sent    symbols  hit  answer                         read    verdict\n");
+    for (m = 0; m < FRAMES; m++) {
+        print_word(book, held, m);
+        told += game->told[m] != 0;
+    }
+    if (game->taken)
+        printf("All %d frames of the game are the lane's.\n", FRAMES);
+    else
+        printf("No frame of it is taken: %u frames of the game are the server's, %u nobody's.\n", told, FRAMES - told);
 }
 
 static void print_game(const struct book *book, const struct game *game)
 {
-    static const char *const sources[] = {"nobody's", "server's", "lane's"};
     unsigned i;
-    printf("\nThe game after the merge\nframe  pins    whose\n");
+    printf("\nThe game after the merge, and the server's frames beside it\nframe  pins    server  whose\n");
     for (i = 0; i < FRAMES; i++) {
         printf("%5u  ", i + 1);
-        if (game->source[i] == NOBODY)
-            printf("%-8s", "-");
-        else
-            print_frame(book, &game->frames[i]);
-        printf("%s\n", sources[game->source[i]]);
+        print_frame(book, merge_frame(game, i));
+        print_frame(book, game->told[i] ? &game->server[i] : NULL);
+        printf("%s\n", whose(game, i));
     }
+}
+
+static void print_raw(const struct book *book, const struct held *held, unsigned m)
+{
+    size_t j;
+    printf("  frame %2u  %-12s", m + 1, merge_open(held->verdicts[m]) ? "OPEN" : unconfirmed(held, m) ? "UNCONFIRMED" : "settled");
+    for (j = 0; j < book->n; j++)
+        printf("%02x", (unsigned)merge_raw(held, m, j));
+    printf("\n");
 }
 
 static void print_held(const struct book *book, const struct game *game)
 {
-    size_t i, j;
+    size_t i;
     unsigned m;
     printf("\nRaw bursts held until the game is paid, word by word where they were not refused\n");
     for (i = 0; i < game->held_count; i++) {
         const struct held *held = &game->held[i];
-        if (held->result != 0)
-            printf("burst %2zu  %-12s%zu bytes\n", i + 1, "OPEN", held->len);
-        for (m = 0; m < held->count && held->result == 0; m++) {
-            const struct word *word = &held->words[m];
-            printf("frame %2u  %-12s", held->first + m + 1, merge_open(word->verdict) ? "OPEN" : unconfirmed(word) ? "UNCONFIRMED" : "settled");
-            for (j = 0; j < book->n; j++)
-                printf("%02x", (unsigned)merge_raw(held, m, j));
-            printf("\n");
-        }
+        const int refused = SHIFTSUM_REFUSAL(held->result) != 0;
+        printf("burst %zu, %zu bytes%s\n", i + 1, held->len, refused ? ": OPEN" : "");
+        for (m = 0; m < FRAMES && !refused; m++)
+            print_raw(book, held, m);
     }
 }
 
 /* The promise of the merge: every burst that came is held as it came, so a frame that is not what the lane saw can still be put right. */
-static int all_held(const struct game *game, const struct delivery *deliveries)
+static int all_held(const struct play *play)
 {
     size_t i;
-    if (game->held_count != SENDINGS)
+    if (play->game.held_count != play->count)
         return 0;
-    for (i = 0; i < SENDINGS; i++)
-        if (game->held[i].len != deliveries[i].len || memcmp(game->held[i].raw, deliveries[i].bytes, deliveries[i].len) != 0)
+    for (i = 0; i < play->count; i++) {
+        const struct held *held = &play->game.held[i];
+        if (held->len != play->deliveries[i].len || memcmp(held->raw, play->deliveries[i].bytes, held->len) != 0)
             return 0;
+    }
     return 1;
 }
 
@@ -205,29 +255,36 @@ static int all_held(const struct game *game, const struct delivery *deliveries)
 static unsigned count_wrong(const struct book *book, const struct game *game)
 {
     unsigned i, wrong = 0;
-    for (i = 0; i < FRAMES; i++)
-        wrong += game->source[i] == NOBODY || !frame_equal(book, &game->frames[i], &lane_frames[i]);
+    for (i = 0; i < FRAMES; i++) {
+        const struct frame *frame = merge_frame(game, i);
+        wrong += frame == NULL || !frame_equal(book, frame, &lane_frames[i]);
+    }
     return wrong;
 }
 
-static void print_close(const struct book *book, struct game *game, const struct game *apart)
+/* What became of the sending with the spark in it. */
+static const char *spark_text(const struct play *play)
 {
-    size_t i, refused = 0, words = 0, open = 0, mended = 0;
+    return play->game.held[SPARK - play->first].taken ? "taken" : "held";
+}
+
+static void print_close(const struct book *book, struct play *mixed, const struct play *apart)
+{
+    size_t i, frameless = 0, open = 0, mended = 0;
     unsigned m;
-    for (i = 0; i < game->held_count; i++) {
-        const struct held *held = &game->held[i];
-        refused += held->result != 0;
-        for (m = 0; m < held->count && held->result == 0; m++) {
-            words++;
-            open += merge_open(held->words[m].verdict) != 0;
-            mended += unconfirmed(&held->words[m]) != 0;
+    for (i = 0; i < mixed->count; i++) {
+        const struct held *held = &mixed->game.held[i];
+        frameless += !held->taken;
+        for (m = 0; m < FRAMES && held->taken; m++) {
+            open += merge_open(held->verdicts[m]) != 0;
+            mended += unconfirmed(held, m) != 0;
         }
     }
-    printf("\n%zu of %zu bursts and %zu of %zu words are open, %zu words unconfirmed: a person looks at them before the game is paid.\n", refused,
-           game->held_count, open, words, mended);
-    printf("Frames that are missing or not what the lane saw: %u of %d. The raw word of each is above.\n", count_wrong(book, game), FRAMES);
-    printf("Had the words been sent one after another: %u of %d.\n", count_wrong(book, apart), FRAMES);
-    printf("The game is paid: %zu raw bursts released.\n", merge_paid(game));
+    printf("\nBursts that gave no frame: %zu of %zu. Frames taken: %zu open, %zu unconfirmed. A person looks at all these before the game is paid.\n",
+           frameless, mixed->count, open, mended);
+    printf("Frames that are missing or not what the lane saw: %u of %d.\n", count_wrong(book, &mixed->game), FRAMES);
+    printf("With the spark the burst was %s whole, the same words one after another were %s whole.\n", spark_text(mixed), spark_text(apart));
+    printf("The game is paid: %zu raw bursts released.\n", merge_paid(&mixed->game));
 }
 
 static void begin(struct game *game)
@@ -238,64 +295,40 @@ static void begin(struct game *game)
         merge_server(game, server_frames[i].number, &server_frames[i].frame);
 }
 
-static const char columns[] = "frame  sent    symbols  hit  answer                         read    verdict\n";
-
-/* The game as the lane sends it, in one burst, and again until it is not refused. */
-static int play_mixed(const struct book *book, struct game *game, struct delivery *deliveries)
+/* The lane sends its game, with its words mixed or one after another, until it is taken. */
+static int send_game(const struct book *book, int mixed, enum fault first, struct play *play)
 {
-    static const char *const faults[] = {"its end is lost", "a symbol that no book has", "a spark spoils a dozen symbols in a row"};
-    size_t i;
-    unsigned m;
-    begin(game);
-    printf("The lane's game in one burst, its ten words mixed\n");
-    for (i = 0; i < SENDINGS; i++) {
+    static const char *const texts[] = {"its end is lost", "a symbol that no book has", "a spark spoils a dozen symbols in a row",
+                                        "one symbol is spoiled"};
+    enum fault fault;
+    begin(&play->game);
+    play->first = first;
+    for (fault = first; fault < FAULTS && !play->game.taken; fault++) {
+        struct delivery *delivery = &play->deliveries[play->count++];
         const struct held *held;
-        if (!transmit(book, sendings[i], &deliveries[i]))
+        if (!transmit(book, mixed, fault, delivery))
             return 0;
-        held = merge_lane(game, book, 0, FRAMES, deliveries[i].bytes, deliveries[i].len);
+        held = merge_lane(&play->game, book, delivery->bytes, delivery->len);
         if (held == NULL)
             return 0;
-        printf("burst %zu, %s", i + 1, faults[sendings[i]]);
-        if (held->result != 0)
-            printf(": refused, %u\n", SHIFTSUM_REFUSAL(held->result));
-        else
-            printf("\n%s", columns);
-        for (m = 0; m < held->count && held->result == 0; m++)
-            print_word(book, held, m);
+        printf("burst %zu, %s: ", play->count, texts[fault]);
+        print_burst(book, &play->game, held);
     }
-    return 1;
+    return all_held(play);
 }
 
-/* The same words and the same spark, the words one after another: each is a burst of its own. */
-static int play_apart(const struct book *book, struct game *game)
+static int play_both(const struct book *book)
 {
-    uint8_t symbols[RAW_MAX];
-    unsigned i;
-    begin(game);
-    printf("\nThe same ten words one after another, the same spark\n%s", columns);
-    if (!lane_send(book, 0, symbols))
+    static struct play mixed, apart;
+    printf("The lane's game in one burst, its ten words mixed\n");
+    if (!send_game(book, 1, CUT, &mixed))
         return 0;
-    spark(book, symbols);
-    for (i = 0; i < FRAMES; i++) {
-        const struct held *held = merge_lane(game, book, i, 1, symbols + i * book->n, book->n);
-        if (held == NULL || held->result != 0)
-            return 0;
-        print_word(book, held, 0);
-    }
-    return 1;
-}
-
-static int play(const struct book *book)
-{
-    static struct game game, apart;
-    static struct delivery deliveries[SENDINGS];
-    if (!play_mixed(book, &game, deliveries) || !play_apart(book, &apart))
+    printf("\nThe same ten words one after another, the same spark; the desk lays them out as a burst\n");
+    if (!send_game(book, 0, SPARK, &apart))
         return 0;
-    print_game(book, &game);
-    print_held(book, &game);
-    if (!all_held(&game, deliveries))
-        return 0;
-    print_close(book, &game, &apart);
+    print_game(book, &mixed.game);
+    print_held(book, &mixed.game);
+    print_close(book, &mixed, &apart);
     return 1;
 }
 
@@ -319,7 +352,7 @@ int main(int argc, char **argv)
     }
     printf("codebook accepted: words of %zu symbols below %u, messages of up to %zu, %u dual word%s\n\n", book.n, 1u << book.p, book.k,
            SHIFTSUM_DUAL_WORDS(result), SHIFTSUM_DUAL_WORDS(result) == 1 ? "" : "s");
-    if (!play(&book)) {
+    if (!play_both(&book)) {
         printf("failed: a word could not be coded, or a burst not held\n");
         return 1;
     }

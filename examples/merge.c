@@ -9,72 +9,104 @@ void merge_begin(struct game *game)
 
 void merge_server(struct game *game, unsigned number, const struct frame *frame)
 {
-    game->source[number] = SERVER;
-    game->frames[number] = *frame;
+    game->told[number] = 1;
+    game->server[number] = *frame;
+}
+
+const struct frame *merge_frame(const struct game *game, unsigned number)
+{
+    if (game->taken)
+        return &game->lane[number];
+    return game->told[number] ? &game->server[number] : NULL;
+}
+
+static size_t place(unsigned m, size_t j)
+{
+    return j * FRAMES + m;
+}
+
+void merge_mix(const struct book *book, const uint8_t *row, uint8_t *burst)
+{
+    unsigned m;
+    size_t j;
+    for (m = 0; m < FRAMES; m++)
+        for (j = 0; j < book->n; j++)
+            burst[place(m, j)] = row[m * book->n + j];
 }
 
 /* Keeps the bytes as they came. */
-static struct held *hold(struct game *game, unsigned first, unsigned count, const uint8_t *received, size_t len)
+static struct held *hold(struct game *game, const uint8_t *received, size_t len)
 {
     struct held *held;
-    if (first > FRAMES || count > FRAMES - first || game->held_count == HELD_MAX || len > RAW_MAX)
+    if (game->held_count == HELD_MAX || len > RAW_MAX)
         return NULL;
     held = &game->held[game->held_count++];
     memset(held, 0, sizeof *held);
-    held->first = first;
-    held->count = count;
     held->len = len;
     memcpy(held->raw, received, len);
     return held;
 }
 
-/* Reads a word's answer by its kind. The verdict where there is no frame in it, otherwise TAKEN with the frame beside it. */
-static enum verdict read_frame(const struct book *book, const uint8_t *answer, struct word *word)
-{
-    uint8_t message[SHIFTSUM_WORD_MAX];
-    if (word->record.kind != SHIFTSUM_CLEAN && word->record.kind != SHIFTSUM_MENDED)
-        return UNREACHED;
-    /* All k symbols, however many the lane handed over: a short frame has its zeros again. */
-    if (shiftsum_read(book->bytes, book->len, answer, book->n, message, book->k) != 0)
-        return REFUSED; /* Not met: the answer of a Clean or Mended word is a code word. */
-    return frame_unpack(book, message, &word->frame) ? TAKEN : IMPOSSIBLE;
-}
-
-static void merge_word(struct game *game, const struct book *book, unsigned number, const uint8_t *answer, struct word *word)
-{
-    word->verdict = read_frame(book, answer, word);
-    if (word->verdict != TAKEN)
-        return;
-    if (game->source[number] == NOBODY) {
-        game->source[number] = LANE;
-        game->frames[number] = word->frame;
-    } else {
-        word->verdict = frame_equal(book, &game->frames[number], &word->frame) ? AGREED : DISPUTED;
-    }
-}
-
-const struct held *merge_lane(struct game *game, const struct book *book, unsigned first, unsigned count, const uint8_t *received, size_t len)
+/* Which words were reached, and how, for a person to see: shiftsum_game tells only how many were not. What it does not refuse, shiftsum_burst does
+ * not refuse either, and no frame is taken by what is found here. */
+static void look(const struct book *book, struct held *held)
 {
     uint8_t answers[RAW_MAX];
-    struct shiftsum_record records[FRAMES];
-    struct held *held = hold(game, first, count, received, len);
     unsigned m;
+    shiftsum_burst(book->bytes, book->len, FRAMES, held->raw, held->len, answers, held->len, held->records, FRAMES);
+    for (m = 0; m < FRAMES; m++) {
+        const uint8_t kind = held->records[m].kind;
+        held->verdicts[m] = kind == SHIFTSUM_CLEAN || kind == SHIFTSUM_MENDED ? WITHHELD : UNREACHED;
+    }
+}
+
+/* Reads the frames of a whole game. Whether a lane sends such frames, all of them. */
+static int read_frames(const struct book *book, const uint8_t *messages, struct held *held)
+{
+    unsigned m;
+    int all = 1;
+    for (m = 0; m < FRAMES; m++) {
+        /* Of k symbols each, however many the lane handed over: a short frame has its zeros again. */
+        if (frame_unpack(book, messages + m * book->k, &held->frames[m]))
+            continue;
+        held->verdicts[m] = IMPOSSIBLE;
+        all = 0;
+    }
+    return all;
+}
+
+/* Compares the lane's game with the frames that stood, and takes it whole, unless one of the lane's stands already. */
+static void take(struct game *game, const struct book *book, struct held *held)
+{
+    unsigned m;
+    for (m = 0; m < FRAMES; m++) {
+        const struct frame *stood = merge_frame(game, m);
+        held->verdicts[m] = stood == NULL ? TAKEN : frame_equal(book, stood, &held->frames[m]) ? AGREED : DISPUTED;
+    }
+    if (game->taken)
+        return;
+    memcpy(game->lane, held->frames, sizeof game->lane);
+    game->taken = held->taken = 1;
+}
+
+const struct held *merge_lane(struct game *game, const struct book *book, const uint8_t *received, size_t len)
+{
+    uint8_t messages[FRAMES * SHIFTSUM_WORD_MAX];
+    struct held *held = hold(game, received, len);
     if (held == NULL)
         return NULL;
-    held->result = shiftsum_burst(book->bytes, book->len, count, held->raw, len, answers, book->n * count, records, count);
-    for (m = 0; m < count; m++) {
-        held->words[m].verdict = REFUSED;
-        if (held->result != 0)
-            continue;
-        held->words[m].record = records[m];
-        merge_word(game, book, first + m, answers + m * book->n, &held->words[m]);
-    }
+    held->result = shiftsum_game(book->bytes, book->len, FRAMES, held->raw, len, messages, FRAMES * book->k);
+    if (SHIFTSUM_REFUSAL(held->result) != 0)
+        return held;
+    look(book, held);
+    if (SHIFTSUM_KIND(held->result) == SHIFTSUM_WHOLE && read_frames(book, messages, held))
+        take(game, book, held);
     return held;
 }
 
 uint8_t merge_raw(const struct held *held, unsigned m, size_t j)
 {
-    return held->raw[j * held->count + m];
+    return held->raw[place(m, j)];
 }
 
 int merge_open(enum verdict verdict)

@@ -30,7 +30,8 @@
  * What every call does:
  *   - It is a pure function of its arguments: no state, no allocation, no input or output, no errno. Any number of threads may call at once.
  *   - It ends for every input.
- *   - It writes its outputs whole, or, where it is refused, not at all. Every other buffer is only read. All but shiftsum_burst have one output or none.
+ *   - It writes its outputs whole, or, where it is refused, not at all; nor does a game that is Held. Every other buffer is only read. All but
+ *     shiftsum_burst have one output or none.
  *   - It takes less than SHIFTSUM_STACK bytes of stack with a codebook of the short form, less than SHIFTSUM_STACK_LONG with any, also with one that
  *     is refused. This is measured, not proved.
  *
@@ -69,22 +70,22 @@ extern "C" {
  * A result is four bytes in a number. The lowest is 0, or the number of the refusal, and then the other three are 0. The first that applies, in the
  * order of this table, is the one returned:
  *
- *      1  codebook: its length is none of the form that byte 3 chooses, or, with     check, code, read, remainder, decode, burst
+ *      1  codebook: its length is none of the form that byte 3 chooses, or, with     check, code, read, remainder, decode, burst, game
  *         another byte 3, of neither form; so also fewer than 4 bytes
- *      2  codebook: a kind byte                                                      check, code, read, remainder, decode, burst
- *      3  codebook: s or p, also an s of the other form                              check, code, read, remainder, decode, burst
- *      4  codebook: a symbol of q or more, or a nonzero place from n on              check, code, read, remainder, decode, burst
- *      5  codebook: the generator                                                    check, code, read, remainder, decode, burst
- *      6  codebook: I or D                                                           check, code, read, remainder, decode, burst
- *      7  codebook: a dual word's place 0, product with g, or weight                 check, code, read, remainder, decode, burst
- *      8  codebook: two dual words are alike: one is a nonzero symbol times a turn   check, code, read, remainder, decode, burst
+ *      2  codebook: a kind byte                                                      check, code, read, remainder, decode, burst, game
+ *      3  codebook: s or p, also an s of the other form                              check, code, read, remainder, decode, burst, game
+ *      4  codebook: a symbol of q or more, or a nonzero place from n on              check, code, read, remainder, decode, burst, game
+ *      5  codebook: the generator                                                    check, code, read, remainder, decode, burst, game
+ *      6  codebook: I or D                                                           check, code, read, remainder, decode, burst, game
+ *      7  codebook: a dual word's place 0, product with g, or weight                 check, code, read, remainder, decode, burst, game
+ *      8  codebook: two dual words are alike: one is a nonzero symbol times a turn   check, code, read, remainder, decode, burst, game
  *         of the other; so also two equal ones
- *     14  M, the count of words: 0, or above 16                                                                           burst
- *      9  input: none or more than k symbols (code), not n symbols (read, remainder,        code, read, remainder, decode, burst
- *         decode), not n * M (burst)
- *     10  output: its length is not exact, n (code, decode), k (read), n - k                code, read, remainder, decode, burst
- *         (remainder), n * M bytes or M records (burst)
- *     11  input: a symbol of q or more                                                      code, read, remainder, decode, burst
+ *     14  M, the count of words: 0, or above 16                                                                           burst, game
+ *      9  input: none or more than k symbols (code), not n symbols (read, remainder,        code, read, remainder, decode, burst, game
+ *         decode), not n * M (burst, game)
+ *     10  output: its length is not exact, n (code, decode), k (read), n - k                code, read, remainder, decode, burst, game
+ *         (remainder), n * M bytes or M records (burst), k * M (game)
+ *     11  input: a symbol of q or more                                                      code, read, remainder, decode, burst, game
  *     12  input: not a code word                                                                  read
  *
  * (13, the inverse of zero, is of the field's operations and is not met here.)
@@ -111,6 +112,15 @@ extern "C" {
 #define SHIFTSUM_MENDED 'M'
 #define SHIFTSUM_STALLED 'S'
 #define SHIFTSUM_SPENT 'X'
+
+/*
+ * game: how many words are held, Stalled or Spent, and in SHIFTSUM_KIND whether the game is Whole or Held.
+ *   Whole    every word is Clean or Mended, none is held, and the messages were written.
+ *   Held     one word or more is Stalled or Spent, and nothing was written.
+ */
+#define SHIFTSUM_HELD_WORDS(result) ((unsigned)(((result) >> 8) & 0xffu))
+#define SHIFTSUM_WHOLE 'W'
+#define SHIFTSUM_HELD 'H'
 
 /*
  * Whether a codebook is accepted.
@@ -170,6 +180,19 @@ struct shiftsum_record {
  */
 uint32_t shiftsum_burst(const uint8_t *book, size_t book_len, uint32_t words, const uint8_t *received, size_t received_len, uint8_t *answers,
                         size_t answers_len, struct shiftsum_record *records, size_t records_len);
+
+/*
+ * Takes a game: decodes a burst as shiftsum_burst does, and reads the messages of all its words, or of none. A game of which some frames are the lane's
+ * and some another's is one that nobody bowled.
+ *   words    M, 1 to 16 (SHIFTSUM_BURST_MAX)
+ *   received n * M symbols, mixed as for shiftsum_burst
+ *   messages k * M bytes: where the game is Whole, written, what shiftsum_read reads of each answer word, one after another; message m from place
+ *            m * k on. Where it is Held, every byte stays as it was
+ * Returns no refusal, Whole or Held and the count of words held, or a refusal from 1 to 11 or 14. Whole tells no more than Clean and Mended do: a word
+ * may be another than the one that was sent. Which words are held is for shiftsum_burst to tell.
+ */
+uint32_t shiftsum_game(const uint8_t *book, size_t book_len, uint32_t words, const uint8_t *received, size_t received_len, uint8_t *messages,
+                       size_t messages_len);
 
 #ifdef __cplusplus
 }

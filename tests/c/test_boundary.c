@@ -1,6 +1,6 @@
 /*
- * The library called from C by its header alone: the scope's codebooks A, B and C, its cases, bursts of them, the refusals of its table, and the
- * longest words, bursts and codebooks of both forms. It is C++ as well, since the header is.
+ * The library called from C by its header alone: the scope's codebooks A, B and C, its cases, bursts and games of them, the refusals of its table,
+ * and the longest words, bursts, games and codebooks of both forms. It is C++ as well, since the header is.
  *
  * Every input ends where its block of memory ends, so that a memory checker sees a read beyond it. Every output lies between guards.
  */
@@ -231,6 +231,53 @@ static uint32_t decoded(char kind, unsigned rounds, unsigned changed)
     return (uint32_t)(unsigned char)kind << 24 | (uint32_t)rounds << 16 | (uint32_t)changed << 8;
 }
 
+/* That of a game: Held with so many words, or Whole with none. */
+static uint32_t taken(unsigned held)
+{
+    return (uint32_t)(unsigned char)(held > 0 ? SHIFTSUM_HELD : SHIFTSUM_WHOLE) << 24 | (uint32_t)held << 8;
+}
+
+/* Game in the form of the others: M stands beside. */
+static uint32_t words_given;
+
+static uint32_t game(const uint8_t *book, size_t book_len, const uint8_t *received, size_t received_len, uint8_t *messages, size_t messages_len)
+{
+    return shiftsum_game(book, book_len, words_given, received, received_len, messages, messages_len);
+}
+
+/* A game with a codebook of one dual word, its symbols as digits, that is accepted. Of one that is Held the messages expected are NULL. */
+static void takes(const char *name, const uint8_t *book, uint32_t words, const char *mixed, const uint8_t *messages, size_t len, unsigned held)
+{
+    uint8_t in[LARGEST], out[LARGEST];
+    const size_t in_len = symbols(in, mixed);
+    const uint32_t result = shiftsum_game(book, BOOK, words, in, in_len, out, len);
+    expect_number(name, "the refusal", SHIFTSUM_REFUSAL(result), 0);
+    expect_number(name, "the kind", (unsigned char)SHIFTSUM_KIND(result), held > 0 ? SHIFTSUM_HELD : SHIFTSUM_WHOLE);
+    expect_number(name, "the count of words held", SHIFTSUM_HELD_WORDS(result), held);
+    words_given = words;
+    call(name, game, book, BOOK, in, in_len, messages, len, taken(held));
+}
+
+static void whole_game(const char *name, const uint8_t *book, uint32_t words, const char *mixed, const char *messages)
+{
+    uint8_t out[LARGEST];
+    const size_t len = symbols(out, messages);
+    takes(name, book, words, mixed, out, len, 0);
+}
+
+/* k is the length of a message. */
+static void held_game(const char *name, const uint8_t *book, uint32_t words, const char *mixed, size_t k, unsigned held)
+{
+    takes(name, book, words, mixed, NULL, k * words, held);
+}
+
+/* A game that is refused. */
+static void refuses_game(const char *name, const uint8_t *book, uint32_t words, const char *mixed, size_t messages_len, uint32_t number)
+{
+    words_given = words;
+    refuses(name, game, book, mixed, messages_len, number);
+}
+
 static void decodes(const char *name, const uint8_t *book, const char *received, char kind, unsigned rounds, unsigned changed, const char *answer)
 {
     uint8_t in[LARGEST], out[LARGEST];
@@ -303,6 +350,12 @@ static void test_macros(void)
     expect_number("macros", "Mended", SHIFTSUM_MENDED, 'M');
     expect_number("macros", "Stalled", SHIFTSUM_STALLED, 'S');
     expect_number("macros", "Spent", SHIFTSUM_SPENT, 'X');
+    expect_number("macros", "the count of words held", SHIFTSUM_HELD_WORDS(0x48001000u), SHIFTSUM_BURST_MAX);
+    expect_number("macros", "the count of words held", SHIFTSUM_HELD_WORDS(0xffff00ffu | 0x100u), 1);
+    expect_number("macros", "the kind of a game", (unsigned char)SHIFTSUM_KIND(0x57000000u), SHIFTSUM_WHOLE);
+    expect_number("macros", "the kind of a game", (unsigned char)SHIFTSUM_KIND(0x00ffffffu | 0x48000000u), SHIFTSUM_HELD);
+    expect_number("macros", "Whole", SHIFTSUM_WHOLE, 'W');
+    expect_number("macros", "Held", SHIFTSUM_HELD, 'H');
 }
 
 static void test_check(void)
@@ -387,7 +440,12 @@ static void test_remainder(void)
     leaves("C, case 4", book_c, "021", "0", 2);
 }
 
-/* Place 0 of each word, then place 1, and so on. */
+/* The words that the scope's program reads: 1000000, 1100000 and 1101000; place 0 of each word, then place 1, and so on. And the last first. */
+static const char *const program_mixed = "111" "011" "000" "001" "000" "000" "000", *const reversed_mixed = "111" "110" "000" "100" "000" "000" "000";
+
+/* 1000000, 1101000, 1000000, and the code word around the other. */
+static const char *const around_mixed = "111" "010" "000" "010" "000" "000" "000", *const inside_mixed = "111" "101" "000" "101" "000" "000" "000";
+
 static void test_burst(void)
 {
     static const struct shiftsum_record program[] = {{SHIFTSUM_MENDED, 1, 1}, {SHIFTSUM_MENDED, 1, 1}, {SHIFTSUM_CLEAN, 0, 0}};
@@ -395,14 +453,39 @@ static void test_burst(void)
     static const struct shiftsum_record mended_stalled[] = {{SHIFTSUM_MENDED, 1, 1}, {SHIFTSUM_STALLED, 1, 0}};
     static const struct shiftsum_record around[] = {{SHIFTSUM_SPENT, 3, 0}, {SHIFTSUM_CLEAN, 0, 0}, {SHIFTSUM_SPENT, 3, 0}};
     static const struct shiftsum_record all_changed[] = {{SHIFTSUM_MENDED, 1, 3}, {SHIFTSUM_CLEAN, 0, 0}};
-    gives_burst("the program's words", book_a, 3, "111" "011" "000" "001" "000" "000" "000", "0000000" "1101000" "1101000", program);
-    gives_burst("the program's words, the last first", book_a, 3, "111" "110" "000" "100" "000" "000" "000", "1101000" "1101000" "0000000",
-                reversed);
+    gives_burst("the program's words", book_a, 3, program_mixed, "0000000" "1101000" "1101000", program);
+    gives_burst("the program's words, the last first", book_a, 3, reversed_mixed, "1101000" "1101000" "0000000", reversed);
     gives_burst("case 7 alone", book_a, 1, "1100000", "1101000", program);
     gives_burst("cases 10 and 11", book_b, 2, "31" "12" "10", "111" "120", mended_stalled);
-    gives_burst("case 9 around a code word", with(book_a, AT_D, 7), 3, "111" "010" "000" "010" "000" "000" "000", "1000000" "1101000" "1000000",
-                around);
+    gives_burst("case 9 around a code word", with(book_a, AT_D, 7), 3, around_mixed, "1000000" "1101000" "1000000", around);
     gives_burst("cases 14 and 4", with(book_c, AT_D, 3), 2, "10" "02" "01", "032" "021", all_changed);
+}
+
+/* By hand: A's 0000 is 0000000 and 1000 is 1101000, B's a is aaa, and C's 02 is 032. */
+static void test_game(void)
+{
+    uint8_t in[LARGEST];
+    whole_game("the program's words", book_a, 3, program_mixed, "0000" "1000" "1000");
+    whole_game("the program's words, the last first", book_a, 3, reversed_mixed, "1000" "1000" "0000");
+    whole_game("case 7 alone", book_a, 1, "1100000", "1000");
+    whole_game("a code word alone", book_a, 1, "1011100", "1100");
+    whole_game("case 10 and a code word", book_b, 2, "32" "12" "12", "1" "2");
+    whole_game("cases 14 and 4", with(book_c, AT_D, 3), 2, "10" "02" "01", "02" "01");
+    held_game("case 9 alone", with(book_a, AT_D, 7), 1, "1000000", MESSAGE_A, 1);
+    held_game("case 9 around a code word", with(book_a, AT_D, 7), 3, around_mixed, MESSAGE_A, 2);
+    held_game("case 9 inside of code words", with(book_a, AT_D, 7), 3, inside_mixed, MESSAGE_A, 1);
+    held_game("case 11 alone", book_b, 1, "120", 1, 1);
+    held_game("cases 10 and 11", book_b, 2, "31" "12" "10", 1, 1);
+    held_game("cases 11 and 10", book_b, 2, "13" "21" "01", 1, 1);
+    held_game("cases 11, 10 and 12", book_b, 3, "131" "213" "012", 1, 2);
+    held_game("cases 4 and 13", book_c, 2, "01" "20" "10", 2, 1);
+    /* With D 3 a round subtracts case 10's error at all places, so that it is Spent; case 11 is Stalled as before. */
+    held_game("Spent, Stalled and Clean", with(book_b, AT_D, 3), 3, "312" "122" "102", 1, 2);
+    memset(in, 0, sizeof in);
+    memset(in, 1, WORDS);
+    words_given = WORDS;
+    call("case 6, 16 times", game, book_a, BOOK, in, WORDS * WORD_A, in + WORDS, WORDS * MESSAGE_A, taken(0));
+    call("case 9, 16 times", game, with(book_a, AT_D, 7), BOOK, in, WORDS * WORD_A, NULL, WORDS * MESSAGE_A, taken(WORDS));
 }
 
 /* A refused codebook is refused by every function, whatever the call is else. */
@@ -427,6 +510,10 @@ static void refused(const char *name, const uint8_t *book, size_t book_len, uint
     call(name, shiftsum_code, book, book_len, message, 0, NULL, 0, number);
     call_burst(name, good_burst, number);
     call_burst(name, bad_burst, number);
+    words_given = 1;
+    call(name, game, book, book_len, word, WORD_A, NULL, MESSAGE_A, number);
+    words_given = 17;
+    call(name, game, book, book_len, bad, WORD_A, NULL, MESSAGE_A + 1, number);
 }
 
 static void test_refused_codebooks(void)
@@ -531,12 +618,15 @@ static void test_refused_lengths(void)
     refuses("refusals 10 and 11", shiftsum_code, book_a, "2", 6, 10);
 }
 
+/* What M may not be; and the program's words with a symbol that is none. */
+static const uint32_t counts[] = {0, 17, 18, 255, 256, 256 + 3, 65536 + 3, 0x80000000u, 0x80000003u, 0xffffffffu};
+static const char *const bad_mixed = "111" "011" "000" "001" "000" "000" "002";
+
 /* Three words of A have 21 symbols. */
 static void test_refused_bursts(void)
 {
     static const uint8_t zeros[17 * WORD_A] = {0};
-    static const uint32_t counts[] = {0, 17, 18, 255, 256, 256 + 3, 65536 + 3, 0x80000000u, 0x80000003u, 0xffffffffu};
-    const char *const mixed = "111" "011" "000" "001" "000" "000" "000", *const bad = "111" "011" "000" "001" "000" "000" "002";
+    const char *const mixed = program_mixed, *const bad = bad_mixed;
     const struct burst seventeen = {book_a, BOOK, 17, zeros, sizeof zeros, NULL, sizeof zeros, NULL, 17};
     char name[64];
     size_t i;
@@ -569,6 +659,42 @@ static void test_refused_bursts(void)
     refuses_burst("refusals 10 and 11", book_a, 3, bad, 21, 2, 10);
 }
 
+/* Their messages have 12. */
+static void test_refused_games(void)
+{
+    static const uint8_t zeros[17 * WORD_A] = {0};
+    const char *const mixed = program_mixed, *const bad = bad_mixed;
+    char name[64];
+    size_t i;
+    for (i = 0; i < sizeof counts / sizeof counts[0]; i++) {
+        snprintf(name, sizeof name, "refusal 14: a game of %lu words", (unsigned long)counts[i]);
+        refuses_game(name, book_a, counts[i], mixed, 12, 14);
+        refuses_game(name, book_a, counts[i], "", 0, 14);
+        refuses_game(name, book_a, counts[i], bad, 11, 14);
+    }
+    words_given = 17;
+    call("refusal 14: 17 words, and a buffer for them", game, book_a, BOOK, zeros, sizeof zeros, NULL, 17 * MESSAGE_A, 14);
+    refuses_game("refusal 9: 20 symbols", book_a, 3, "11101100000100000000", 12, 9);
+    refuses_game("refusal 9: 22 symbols", book_a, 3, "1110110000010000000000", 12, 9);
+    refuses_game("refusal 9: 7 symbols", book_a, 3, "1101000", 12, 9);
+    refuses_game("refusal 9: 12 symbols, as many as the messages have", book_a, 3, "111011000001", 12, 9);
+    refuses_game("refusal 9: no symbols", book_a, 3, "", 12, 9);
+    refuses_game("refusal 9: symbols of three words for one", book_a, 1, mixed, 4, 9);
+    refuses_game("refusal 10: messages of 11", book_a, 3, mixed, 11, 10);
+    refuses_game("refusal 10: messages of 13", book_a, 3, mixed, 13, 10);
+    refuses_game("refusal 10: messages of 4, which is one", book_a, 3, mixed, 4, 10);
+    refuses_game("refusal 10: messages of 21, which is three words", book_a, 3, mixed, 21, 10);
+    refuses_game("refusal 10: no messages", book_a, 3, mixed, 0, 10);
+    refuses_game("refusal 10: a game that would be Held", book_b, 2, "31" "12" "10", 3, 10);
+    refuses_game("refusal 11: a symbol 2", book_a, 3, bad, 12, 11);
+    refuses_game("refusal 11: a symbol 4", book_b, 2, "41" "12" "10", 2, 11);
+    refuses_game("refusal 11: a symbol 4, and case 11 before it", book_b, 2, "13" "21" "04", 2, 11);
+    /* Of two the first in the table. */
+    refuses_game("refusals 9, 10 and 11", book_a, 2, bad, 12, 9);
+    refuses_game("refusals 9 and 10", book_a, 3, "1101000", 4, 9);
+    refuses_game("refusals 10 and 11", book_a, 3, bad, 11, 10);
+}
+
 /* Lengths that are the right ones and 2^32 more. The room can be read, and takes no memory before that; it cannot be written, which a refused call
  * does not do. */
 static void test_lengths_of_33_digits(void)
@@ -588,6 +714,8 @@ static void test_lengths_of_33_digits(void)
     expect_number("2^32 more", "the result for answers", shiftsum_burst(book_a, BOOK, 1, word, WORD_A, room, more + WORD_A, &record, 1), 10);
     expect_number("2^32 more", "the result for a list",
                   shiftsum_burst(book_a, BOOK, 1, word, WORD_A, answer, WORD_A, (struct shiftsum_record *)mapped, more + 1), 10);
+    expect_number("2^32 more", "the result for a game", shiftsum_game(book_a, BOOK, 1, room, more + WORD_A, answer, MESSAGE_A), 9);
+    expect_number("2^32 more", "the result for messages", shiftsum_game(book_a, BOOK, 1, word, WORD_A, room, more + MESSAGE_A), 10);
     munmap(mapped, room_len);
 }
 
@@ -697,12 +825,12 @@ static void test_largest(const struct shape *shape)
     call(is, shiftsum_decode, book, len, received, n, NULL, n - 1, 10);
 }
 
-/* As many words as there may be, every second one with an error, each at another place. */
+/* As many words as there may be, every second one with an error, each at another place; a burst of them, and a game. */
 static void test_largest_burst(const struct shape *shape)
 {
-    static uint8_t received[LARGEST_BURST], answers[LARGEST_BURST];
+    static uint8_t received[LARGEST_BURST], answers[LARGEST_BURST], messages[LARGEST_BURST];
     uint8_t book[LONG_BOOK], message[LARGEST - 1], word[LARGEST];
-    const size_t len = make_sums(book, shape), n = shape->n, all = WORDS * n;
+    const size_t len = make_sums(book, shape), n = shape->n, k = n - 1, all = WORDS * n;
     struct shiftsum_record records[WORDS];
     const struct burst burst = {book, len, WORDS, received, all, answers, all, records, WORDS};
     const struct burst refused_burst = {book, len, WORDS, received, all, NULL, all, NULL, WORDS};
@@ -714,14 +842,42 @@ static void test_largest_burst(const struct shape *shape)
             const uint8_t symbol = (uint8_t)(word[j] ^ (j == m ? error : 0));
             received[j * WORDS + m] = symbol;
             answers[m * n + j] = symbol ^ error;
+            if (j < k)
+                messages[m * k + j] = (uint8_t)(answers[m * n + j] ^ (j > 0 ? messages[m * k + j - 1] : 0));
         }
         records[m].kind = error == 0 ? SHIFTSUM_CLEAN : SHIFTSUM_MENDED;
         records[m].rounds = error != 0;
         records[m].changed = (uint8_t)(error == 0 ? 0 : n);
     }
+    words_given = WORDS;
     call_burst(shape->name, burst, 0);
+    call(shape->name, game, book, len, received, all, messages, WORDS * k, taken(0));
     received[all - 1] = (uint8_t)(1u << shape->p);
     call_burst(shape->name, refused_burst, 11);
+    call(shape->name, game, book, len, received, all, NULL, WORDS * k, 11);
+}
+
+/* A game of as many words as there may be, every second one with an error, which is mended; then of one word more each time, from the last to the
+ * first, that is Stalled: of errors with a place between them no check has two, so that they tie, and D is 1. */
+static void test_every_count_held(const struct shape *shape)
+{
+    static uint8_t received[LARGEST_BURST];
+    uint8_t book[LONG_BOOK], messages[WORDS];
+    const size_t len = make_repeats(book, shape, 1), n = shape->n, all = WORDS * n;
+    unsigned held;
+    size_t m, j;
+    for (m = 0; m < WORDS; m++) {
+        messages[m] = (uint8_t)(m % (1u << shape->p));
+        for (j = 0; j < n; j++)
+            received[j * WORDS + m] = (uint8_t)(messages[m] ^ (m % 2 == 1 && j == m ? shape->error : 0));
+    }
+    words_given = WORDS;
+    call(shape->name, game, book, len, received, all, messages, WORDS, taken(0));
+    for (held = 1; held <= WORDS; held++) {
+        received[20 * WORDS + WORDS - held] ^= shape->error;
+        received[30 * WORDS + WORDS - held] ^= shape->error;
+        call(shape->name, game, book, len, received, all, NULL, WORDS, taken(held));
+    }
 }
 
 /* The longest remainder: x^(n - 1) is the sum of the powers below it. */
@@ -757,6 +913,8 @@ static void test_longest_book(const struct shape *shape)
     received[n - 1] = 0;
     call(shape->name, shiftsum_decode, book, len, received, n, word, n, decoded(SHIFTSUM_MENDED, 1, 1));
     call(shape->name, shiftsum_decode, book, len, word, n, word, n, decoded(SHIFTSUM_CLEAN, 0, 0));
+    words_given = 1;
+    call(shape->name, game, book, len, received, n, &message, 1, taken(0));
 }
 
 /* A copy of a codebook of the long form with one byte changed, good until the next one. */
@@ -844,15 +1002,18 @@ int main(void)
     test_short_messages();
     test_remainder();
     test_burst();
+    test_game();
     test_refused_codebooks();
     test_alike_dual_words();
     test_refused_calls();
     test_refused_lengths();
     test_refused_bursts();
+    test_refused_games();
     for (i = 0; i < sizeof shapes / sizeof shapes[0]; i++) {
         test_every_length(&shapes[i]);
         test_largest(&shapes[i]);
         test_largest_burst(&shapes[i]);
+        test_every_count_held(&shapes[i]);
         test_longest_remainder(&shapes[i]);
         test_longest_book(&shapes[i]);
     }

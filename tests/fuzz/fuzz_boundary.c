@@ -4,11 +4,12 @@
  * An input makes one codebook, a message, a received word, a burst of words and the sizes of the outputs, and all functions are called with them;
  * decode again with a few errors more where the word was not refused, and code, where the input asks for it, with messages of every length from 0 to
  * k + 1. So that most calls get past the codebook's refusals, an input mostly names an accepted codebook of a shelf and a few edits; it can give all
- * bytes as well. A burst is held to decodes of its words, which are unmixed here.
+ * bytes as well. A burst is held to decodes of its words, which are unmixed here; the same words are taken as a game.
  *
  * The archive is not made for the sanitizer, which therefore sees nothing of what happens in it. So every buffer lies in pages of its own between
  * pages that may not be touched, at one end of them, and the rest of the pages is filled: reading or writing beyond that end stops the program, and
- * what is written beyond the other shows. What a call must not write may not be written while it runs, the output of a refused call too.
+ * what is written beyond the other shows. What a call must not write may not be written while it runs, the output of a refused call and the messages
+ * of a game that is Held too.
  *
  * With FAULTS defined the library is made wrong in the way that the environment variable FAULT names, to see that the comparison finds it.
  */
@@ -26,6 +27,8 @@ uint32_t reference_code(const uint8_t *book, size_t book_len, const uint8_t *mes
 uint32_t reference_read(const uint8_t *book, size_t book_len, const uint8_t *word, size_t word_len, uint8_t *message, size_t message_len);
 uint32_t reference_remainder(const uint8_t *book, size_t book_len, const uint8_t *word, size_t word_len, uint8_t *remainder, size_t remainder_len);
 uint32_t reference_decode(const uint8_t *book, size_t book_len, const uint8_t *received, size_t received_len, uint8_t *answer, size_t answer_len);
+uint32_t reference_game(const uint8_t *book, size_t book_len, uint32_t words, const uint8_t *received, size_t received_len, uint8_t *messages,
+                        size_t messages_len);
 size_t reference_shelf(size_t number, uint8_t *book);
 
 enum { MOST_BOOK = 9000, LARGEST = SHIFTSUM_WORD_MAX, MOST_RECORD = LARGEST + 1, MOST_SHELF = 256, ROOM = 12288, SEEDS_EACH = 13 };
@@ -389,8 +392,8 @@ static void make_book(struct bytes *book, struct input *input)
 /* The byte that asks for a message of every length. */
 enum { EVERY = 1 };
 
-/* Mostly the exact size. */
-static size_t size(size_t exact, struct input *input)
+/* Mostly the exact size, now and then the other one. */
+static size_t size_or(size_t exact, size_t other, struct input *input)
 {
     const uint8_t choice = next(input);
     switch (choice % 16) {
@@ -401,10 +404,15 @@ static size_t size(size_t exact, struct input *input)
     case 14:
         return choice / 16 * 10;
     case 15:
-        return choice / 16 % 2 == 0 ? 0 : 2 * exact;
+        return choice / 16 % 2 == 0 ? 0 : other;
     default:
         return exact;
     }
+}
+
+static size_t size(size_t exact, struct input *input)
+{
+    return size_or(exact, 2 * exact, input);
 }
 
 /* How many symbols are coded: mostly k, often any number to k + 1, now and then more. */
@@ -454,10 +462,10 @@ static void make_word(struct bytes *word, const struct bytes *book, struct shape
 
 /* --- A burst of an input. --- */
 
-/* M, how many words are made, and the lengths. */
+/* M, how many words are made, and the lengths; messages are those of a game. */
 struct burst {
     uint32_t words;
-    size_t made, received, answers, records;
+    size_t made, received, answers, records, messages;
 };
 
 /* Mostly 1 to 16; else 0, up to 32, or a number with 1 to 16 in its lowest byte, or in its two lowest. */
@@ -481,20 +489,23 @@ static uint32_t burst_words(struct input *input)
     }
 }
 
-static struct burst burst_sizes(size_t n, struct input *input)
+static struct burst burst_sizes(struct shape shape, struct input *input)
 {
+    const size_t n = shape.n;
     struct burst burst;
     burst.words = burst_words(input);
     burst.made = burst.words <= WORDS_MADE ? burst.words : 1 + (burst.words - 1) % MOST_WORDS;
     burst.received = size(n * burst.made, input);
     burst.answers = size(n * burst.made, input);
     burst.records = size(burst.made, input);
+    burst.messages = size_or(shape.k * burst.made, n * burst.made, input);
     burst.received = burst.received < MOST_BOOK ? burst.received : MOST_BOOK;
     burst.answers = burst.answers < MOST_BOOK ? burst.answers : MOST_BOOK;
     return burst;
 }
 
-/* Mostly code words, mixed, some of them damaged, and now and then one symbol of q or more; then symbols of any sort. */
+/* Mostly code words, mixed, some of them damaged, half of the time by one error at most, so that there are Whole games, and now and then one symbol
+ * of q or more; then symbols of any sort. */
 static void make_burst(struct bytes *mixed, const struct bytes *book, struct shape shape, size_t words, struct input *input)
 {
     static struct bytes message, word;
@@ -508,7 +519,7 @@ static void make_burst(struct bytes *mixed, const struct bytes *book, struct sha
         return;
     }
     for (m = 0; m < words; m++) {
-        const unsigned choice = any(input) % 96; /* no symbol of q or more */
+        const unsigned byte = any(input), choice = sort % 8 > 3 ? byte % 2 * 8 : byte % 96; /* no symbol of q or more */
         make_symbols(&message, shape.k, shape.q, 0, input);
         make_word(&word, book, shape, &message, (m + first) % words < damaged ? choice : 0, input);
         for (place = 0; place < shape.n; place++)
@@ -624,7 +635,18 @@ static uint32_t expected_burst(const uint8_t *book, size_t book_len, const uint8
     return 0;
 }
 
-enum { CHECK, CODE, READ, REMAINDER, DECODE, BURST, FUNCTIONS };
+/* Game in the form of the others. */
+static uint32_t library_game(const uint8_t *book, size_t book_len, const uint8_t *input, size_t input_len, uint8_t *output, size_t output_len)
+{
+    return shiftsum_game(book, book_len, words_given, input, input_len, output, output_len);
+}
+
+static uint32_t expected_game(const uint8_t *book, size_t book_len, const uint8_t *input, size_t input_len, uint8_t *output, size_t output_len)
+{
+    return reference_game(book, book_len, words_given, input, input_len, output, output_len);
+}
+
+enum { CHECK, CODE, READ, REMAINDER, DECODE, BURST, GAME, FUNCTIONS };
 
 static const struct {
     const char *name;
@@ -637,11 +659,24 @@ static const struct {
     {"remainder", shiftsum_remainder, reference_remainder, 11},
     {"decode", shiftsum_decode, reference_decode, 11},
     {"burst", library_burst, expected_burst, 11},
+    {"game", library_game, expected_game, 11},
 };
 
 static int can_refuse(int which, unsigned number)
 {
-    return number <= functions[which].refusals || (which == BURST && number == 14);
+    return number <= functions[which].refusals || ((which == BURST || which == GAME) && number == 14);
+}
+
+/* Whether a word of this kind holds its game. */
+static int is_held(char kind)
+{
+    return kind == SHIFTSUM_STALLED || kind == SHIFTSUM_SPENT;
+}
+
+/* Whether a call with this result leaves its output as it was. */
+static int writes_nothing(int which, uint32_t result)
+{
+    return SHIFTSUM_REFUSAL(result) != 0 || (which == GAME && SHIFTSUM_KIND(result) == SHIFTSUM_HELD);
 }
 
 static void print_bytes(const char *what, const uint8_t *bytes, size_t len)
@@ -765,7 +800,7 @@ __attribute__((no_sanitize("address"))) static uint32_t faulty_code(const char *
     return result;
 }
 
-/* The faults that a burst could have by its result alone; the codebook is accepted. */
+/* The faults that a burst or a game could have by its result alone; the codebook is accepted. */
 static uint32_t faulty_refusal(const char *fault, uint32_t result)
 {
     const struct shape shape = shape_of(lent_book());
@@ -813,6 +848,80 @@ __attribute__((no_sanitize("address"))) static uint32_t faulty_burst(const char 
     return faulty_refusal(fault, result);
 }
 
+/* The kind of a word of the burst that the library was lent. */
+static char kind_of_word(size_t m)
+{
+    const size_t n = shape_of(lent_book()).n;
+    uint8_t word[LARGEST], answer[LARGEST];
+    size_t place;
+    for (place = 0; place < n; place++)
+        word[place] = input_area.buffer[place * words_given + m];
+    return SHIFTSUM_KIND(reference_decode(book_area.buffer, book_area.len, word, n, answer, n));
+}
+
+/* The faults that a game could have by the words that it counts, made of a right result. Whole is told where none is counted. */
+static uint32_t faulty_held(const char *fault, uint32_t result)
+{
+    uint32_t held = 0;
+    size_t m;
+    for (m = 0; m < words_given; m++) {
+        const char kind = kind_of_word(m);
+        if (strcmp(fault, "mended") == 0)
+            held += kind != SHIFTSUM_CLEAN;
+        else if (strcmp(fault, "stalled") == 0)
+            held += kind == SHIFTSUM_STALLED;
+        else if (strcmp(fault, "spent") == 0)
+            held += kind == SHIFTSUM_SPENT;
+        else if (strcmp(fault, "any") == 0)
+            held |= (uint32_t)is_held(kind);
+        else if (strcmp(fault, "last") == 0)
+            held += (uint32_t)(m + 1 < words_given && is_held(kind));
+        else
+            return result;
+    }
+    return held << 8 | (uint32_t)(held > 0 ? SHIFTSUM_HELD : SHIFTSUM_WHOLE) << 24;
+}
+
+/* The faults that the messages of a Whole game could have, made of right ones. */
+__attribute__((no_sanitize("address"))) static void faulty_messages(const char *fault)
+{
+    volatile uint8_t *output = output_area.buffer;
+    const size_t k = shape_of(lent_book()).k;
+    uint8_t messages[MOST_WORDS * LARGEST];
+    size_t m, place;
+    memcpy(messages, output_area.buffer, output_area.len);
+    for (m = 0; m < words_given; m++)
+        for (place = 0; place < k; place++) {
+            if (strcmp(fault, "mixed") == 0)
+                output[place * words_given + m] = messages[m * k + place];
+            if (strcmp(fault, "reverse") == 0)
+                output[(words_given - 1 - m) * k + place] = messages[m * k + place];
+            if (strcmp(fault, "unread") == 0)
+                output[m * k + place] = input_area.buffer[place * words_given + m];
+        }
+}
+
+/* The faults that a game could have, made of a right one; the codebook is accepted. */
+__attribute__((no_sanitize("address"))) static uint32_t faulty_game(const char *fault, uint32_t result)
+{
+    volatile uint8_t *output = output_area.buffer;
+    const int as_words = output_area.len == shape_of(lent_book()).n * words_given;
+    if (strncmp(fault, "game-", 5) != 0)
+        return result;
+    fault += 5;
+    if (result == 10 && (strcmp(fault, "sizes") == 0 || (strcmp(fault, "words") == 0 && as_words)))
+        return (uint32_t)SHIFTSUM_WHOLE << 24;
+    if (SHIFTSUM_REFUSAL(result) != 0 || faulty_refusal(fault, result) != result)
+        return faulty_refusal(fault, result);
+    if (SHIFTSUM_KIND(result) == SHIFTSUM_WHOLE)
+        faulty_messages(fault);
+    else if (strcmp(fault, "clears") == 0 || (strcmp(fault, "early") == 0 && !is_held(kind_of_word(0))))
+        output[0] = 0;
+    if (strcmp(fault, "place") == 0)
+        return (result & 0xff000000u) | (uint32_t)SHIFTSUM_HELD_WORDS(result) << 16;
+    return faulty_held(fault, result);
+}
+
 /* The faults that condition 8 could have, made of a right result. */
 static uint32_t faulty_copies(const char *fault, uint32_t result)
 {
@@ -849,6 +958,10 @@ __attribute__((no_sanitize("address"))) static void faulty_sum(const char *fault
             output[place] = input_area.buffer[place];
 }
 
+/* The faults of the functions that have their own, where the codebook is accepted. */
+static uint32_t (*const faults[FUNCTIONS])(const char *, uint32_t) = {
+    [CODE] = faulty_code, [REMAINDER] = faulty_remainder, [BURST] = faulty_burst, [GAME] = faulty_game};
+
 /* The faults that a library could have. They are done as the archive would do them, unseen by the sanitizer. */
 __attribute__((no_sanitize("address"))) static uint32_t faulty(int which, uint32_t result)
 {
@@ -857,10 +970,8 @@ __attribute__((no_sanitize("address"))) static uint32_t faulty(int which, uint32
     const char kind = which == DECODE && SHIFTSUM_REFUSAL(result) == 0 ? SHIFTSUM_KIND(result) : '-';
     if (fault == NULL)
         return result;
-    if (which == REMAINDER)
-        return faulty_remainder(fault, result);
-    if (which == CODE || which == BURST)
-        return result >= 1 && result <= 8 ? result : (which == CODE ? faulty_code : faulty_burst)(fault, result);
+    if (faults[which] != NULL)
+        return result >= 1 && result <= 8 ? result : faults[which](fault, result);
     if (which == CHECK)
         result = faulty_copies(fault, faulty_forms(fault, result));
     if (strcmp(fault, "refusal") == 0 && which == CHECK && result == 7)
@@ -899,16 +1010,19 @@ __attribute__((no_sanitize("address"))) static uint32_t faulty(int which, uint32
 /* Where k is 1, one symbol is not short. */
 enum { LENGTH_0, K_IS_1, ONE_SYMBOL, SHORT, FULL, K_AND_1, ABOVE, LENGTHS };
 
-/* Bursts: refused for M 0, for M a little above 16, for one that has 1 to 16 in its lowest byte; for the size of the answers alone, and of the list;
- * for a symbol behind the first n; of one word, of 16; with words of several kinds. */
-enum { NO_WORD, ABOVE_16, LOW_BYTE, ANSWERS, LIST, BEHIND, ONE_WORD, SIXTEEN, SEVERAL_KINDS, BURSTS };
+/* Bursts and games: refused for M 0, for M a little above 16, for one that has 1 to 16 in its lowest byte; for a symbol behind the first n; of one
+ * word, of 16. Bursts: refused for the size of the answers alone, and of the list; with words of several kinds. Games: refused for messages as long
+ * as the words; Whole with 16 words, with a mended one; Held by the last word alone, by every word of several, by Stalled and Spent ones. */
+enum { NO_WORD, ABOVE_16, LOW_BYTE, BEHIND, ONE_WORD, SIXTEEN, OF_BOTH };
+enum { ANSWERS = OF_BOTH, LIST, SEVERAL_KINDS, BURSTS };
+enum { AS_WORDS = OF_BOTH, SIXTEEN_WHOLE, MENDED_WHOLE, LAST_HELD, ALL_HELD, STALLED_AND_SPENT, GAMES };
 
 /* By the form that byte 3 chooses: how many calls of each function had each result, for decode and the words of bursts the kinds; those of decode
  * that took two rounds or more; those of check with result 8 by the copy that the codebook had; and those of code with an accepted codebook by the
- * length of the message; mended words by whether a packed place was changed, and a single one; bursts of each sort. */
+ * length of the message; mended words by whether a packed place was changed, and a single one; bursts and games of each sort. */
 static struct counts {
     unsigned long calls[FUNCTIONS], accepted[FUNCTIONS], refused[FUNCTIONS][256], kinds[FUNCTIONS][128], later[128], copies[UNLIKE + 1];
-    unsigned long lengths[LENGTHS][256], every_length, sums[SUMS], bursts[BURSTS];
+    unsigned long lengths[LENGTHS][256], every_length, sums[SUMS], bursts[BURSTS], games[GAMES];
 } counts[FORMS];
 static unsigned long left_out;
 
@@ -947,27 +1061,56 @@ static void count_ways(unsigned number, const struct bytes *book)
         }
 }
 
-/* The sorts that a burst is of. */
-static void count_burst(uint32_t result, const struct bytes *book, struct counts *own)
+/* The sorts that a burst or a game is of. */
+static void count_mixed(uint32_t result, struct shape shape, unsigned long *sorts)
 {
-    const struct shape shape = shape_of(book);
     const uint32_t words = words_given, low = words & 255;
-    size_t at = 0, unlike = 0;
+    const int accepted = SHIFTSUM_REFUSAL(result) == 0;
+    size_t at = 0;
     while (at < shape.n && at < input_area.len && input_area.buffer[at] < shape.q)
         at++;
-    own->bursts[NO_WORD] += result == 14 && words == 0;
-    own->bursts[ABOVE_16] += result == 14 && words > MOST_WORDS && words <= WORDS_MADE;
-    own->bursts[LOW_BYTE] += result == 14 && words > 255 && low >= 1 && low <= MOST_WORDS;
+    sorts[NO_WORD] += result == 14 && words == 0;
+    sorts[ABOVE_16] += result == 14 && words > MOST_WORDS && words <= WORDS_MADE;
+    sorts[LOW_BYTE] += result == 14 && words > 255 && low >= 1 && low <= MOST_WORDS;
+    sorts[BEHIND] += result == 11 && at == shape.n;
+    sorts[ONE_WORD] += accepted && words == 1;
+    sorts[SIXTEEN] += accepted && words == MOST_WORDS;
+}
+
+/* The kinds of the words of the last burst that was not refused, and how many words of each there were. */
+static uint8_t kinds_met[MOST_WORDS];
+static size_t met[128];
+
+static void count_burst(uint32_t result, struct shape shape, struct counts *own)
+{
+    const uint32_t words = words_given;
+    size_t at, unlike = 0;
+    count_mixed(result, shape, own->bursts);
     own->bursts[ANSWERS] += result == 10 && list_area.len == RECORD * words;
     own->bursts[LIST] += result == 10 && output_area.len == shape.n * words;
-    own->bursts[BEHIND] += result == 11 && at == shape.n;
-    own->bursts[ONE_WORD] += result == 0 && words == 1;
-    own->bursts[SIXTEEN] += result == 0 && words == MOST_WORDS;
+    memset(met, 0, sizeof met);
     for (at = 0; result == 0 && at < words; at++) {
-        own->kinds[BURST][list_area.buffer[RECORD * at] % 128]++;
-        unlike += list_area.buffer[RECORD * at] != list_area.buffer[0];
+        kinds_met[at] = list_area.buffer[RECORD * at] % 128;
+        own->kinds[BURST][kinds_met[at]]++;
+        met[kinds_met[at]]++;
+        unlike += kinds_met[at] != kinds_met[0];
     }
     own->bursts[SEVERAL_KINDS] += unlike > 0;
+}
+
+/* The words are those of the burst before it; where that was refused, none was met. */
+static void count_game(uint32_t result, struct shape shape, struct counts *own)
+{
+    const uint32_t words = words_given;
+    const size_t stalled = met[SHIFTSUM_STALLED], spent = met[SHIFTSUM_SPENT];
+    const int accepted = SHIFTSUM_REFUSAL(result) == 0, whole = accepted && SHIFTSUM_KIND(result) == SHIFTSUM_WHOLE, held = accepted && !whole;
+    count_mixed(result, shape, own->games);
+    own->games[AS_WORDS] += result == 10 && output_area.len == shape.n * words;
+    own->games[SIXTEEN_WHOLE] += whole && words == MOST_WORDS;
+    own->games[MENDED_WHOLE] += whole && met[SHIFTSUM_MENDED] > 0;
+    own->games[LAST_HELD] += held && words > 1 && stalled + spent == 1 && is_held((char)kinds_met[words - 1]);
+    own->games[ALL_HELD] += held && words > 1 && stalled + spent == words;
+    own->games[STALLED_AND_SPENT] += held && stalled > 0 && spent > 0;
 }
 
 static void count(int which, uint32_t result, const struct bytes *book)
@@ -976,8 +1119,8 @@ static void count(int which, uint32_t result, const struct bytes *book)
     struct counts *own = &counts[which_form(book)];
     unsigned mark = (unsigned)which;
     own->calls[which]++;
-    if (which == BURST)
-        count_burst(result, book, own);
+    if (which == BURST || which == GAME)
+        (which == BURST ? count_burst : count_game)(result, shape_of(book), own);
     if (number != 0) {
         own->refused[which][number]++;
         seen[mark * 16 + number % 16] = 1;
@@ -1000,6 +1143,11 @@ static void count(int which, uint32_t result, const struct bytes *book)
     }
     if (which == BURST)
         mark = mark * 64 + (words_given - 1) % MOST_WORDS * 4 + list_area.buffer[0] % 4;
+    if (which == GAME) {
+        const unsigned held = SHIFTSUM_HELD_WORDS(result);
+        own->kinds[which][kind]++;
+        mark = mark * 64 + (words_given - 1) % MOST_WORDS * 4 + (held < 4 ? held : 3);
+    }
     seen[16 * FUNCTIONS + mark % (SEEN - 16 * FUNCTIONS)] = 1;
 }
 
@@ -1020,8 +1168,9 @@ static void differs(int which, const char *what, uint32_t result, uint32_t expec
     print_bytes("library's output", output_area.buffer, output_area.len);
     print_bytes("expected output", image, output_area.len);
     print_bytes("output before the call", held->at, held->len);
-    if (which == BURST) {
+    if (which == BURST || which == GAME)
         fprintf(stderr, "words %lu\n", (unsigned long)words_given);
+    if (which == BURST) {
         print_bytes("library's list", list_area.buffer, list_area.len);
         print_bytes("expected list", list_area.image + (list_area.buffer - list_area.pages), list_area.len);
     }
@@ -1052,9 +1201,9 @@ static uint32_t compare(int which, const struct bytes *book, const struct bytes 
     expected = functions[which].reference(book->at, book->len, input->at, input->len, output, held->len);
     allow(&book_area, PROT_READ);
     allow(&input_area, PROT_READ);
-    if (SHIFTSUM_REFUSAL(expected) != 0)
+    if (writes_nothing(which, expected))
         allow(&output_area, PROT_READ);
-    if (SHIFTSUM_REFUSAL(expected) != 0 && which == BURST)
+    if (writes_nothing(which, expected) && which == BURST)
         allow(&list_area, PROT_READ);
     result = functions[which].library(book_area.buffer, book->len, input_area.buffer, input->len, output_area.buffer, held->len);
     result = faulty(which, result);
@@ -1152,7 +1301,7 @@ static void decode_some(const struct bytes *book, struct bytes *word, const stru
     }
 }
 
-/* Decodes a burst. The symbols of one with a refused codebook are drawn. */
+/* Decodes a burst, and takes it as a game. The symbols of one with a refused codebook are drawn. */
 static void decode_burst(const struct bytes *book, int accepted, const struct burst *burst, uint8_t first, unsigned places, struct input *input)
 {
     static struct bytes mixed, held;
@@ -1167,6 +1316,8 @@ static void decode_burst(const struct bytes *book, int accepted, const struct bu
     lay(&list_area, held.at, held.len, places & 8);
     hold(&held, burst->answers, first);
     compare(BURST, book, &mixed, &held, places);
+    hold(&held, burst->messages, first);
+    compare(GAME, book, &mixed, &held, places >> 1);
 }
 
 int LLVMFuzzerTestOneInput(const uint8_t *data, size_t len)
@@ -1186,7 +1337,7 @@ int LLVMFuzzerTestOneInput(const uint8_t *data, size_t len)
     const size_t message_len = message_size(shape.k, &input), word_len = size(shape.n, &input);
     const size_t coded_len = size(shape.n, &input), read_len = size(shape.k, &input), answer_len = size(shape.n, &input);
     const size_t rest_len = size(shape.n - shape.k, &input);
-    burst = burst_sizes(shape.n, &input);
+    burst = burst_sizes(shape, &input);
     every = next(&input);
     input.drawn = (uint32_t)next_two(&input);
     make_symbols(&message, shape.k, shape.q, next(&input), &input);
@@ -1227,15 +1378,14 @@ static void print_lengths(const char *form, const struct counts *own)
     printf("\n");
 }
 
-/* How many bursts were of each sort. */
-static void print_bursts(const char *form, const struct counts *own)
+/* How many bursts, or games, were of each sort. */
+static void print_sorts(const char *form, const char *what, const unsigned long *sorts, const char *const *own_names, int count)
 {
-    static const char *const names[BURSTS] = {"no-word:14", "17-to-32:14", "1-to-16-in-a-byte:14", "answers:10", "list:10", "behind-the-first-n:11",
-                                              "one-word", "16-words", "several-kinds"};
+    static const char *const names[OF_BOTH] = {"no-word:14", "17-to-32:14", "1-to-16-in-a-byte:14", "behind-the-first-n:11", "one-word", "16-words"};
     int sort;
-    printf("%sbursts", form);
-    for (sort = 0; sort < BURSTS; sort++)
-        printf(" %s %lu", names[sort], own->bursts[sort]);
+    printf("%s%s", form, what);
+    for (sort = 0; sort < count; sort++)
+        printf(" %s %lu", sort < OF_BOTH ? names[sort] : own_names[sort - OF_BOTH], sorts[sort]);
     printf("\n");
 }
 
@@ -1243,14 +1393,17 @@ static void print_bursts(const char *form, const struct counts *own)
 static const unsigned numbers[] = {1, 2, 3, 4, 5, 6, 7, 8, 9, 10, 11, 12, 14};
 enum { NUMBERS = sizeof numbers / sizeof numbers[0] };
 
+/* The letters of the table's columns: the kinds of a word's answer, and those of a game's. */
+static const char letters[] = "CMSXWH";
+enum { KINDS_OF_WORDS = 4, KINDS = sizeof letters - 1 };
+
 /* A line of the table: a dash where a function has no such result. */
 static void print_function(const char *form, const struct counts *own, int which)
 {
-    static const char letters[] = "CMSX";
     int column;
     printf("%5s%-9s %9lu %9lu", form, functions[which].name, own->calls[which], own->accepted[which]);
-    for (column = 0; column < 4; column++)
-        if (which == DECODE || which == BURST)
+    for (column = 0; column < KINDS; column++)
+        if (which == GAME ? column >= KINDS_OF_WORDS : (which == DECODE || which == BURST) && column < KINDS_OF_WORDS)
             printf(" %7lu", own->kinds[which][(unsigned)letters[column]]);
         else
             printf(" %7s", "-");
@@ -1264,6 +1417,9 @@ static void print_function(const char *form, const struct counts *own, int which
 
 static void print_form(const char *form, const struct counts *own)
 {
+    static const char *const of_bursts[] = {"answers:10", "list:10", "several-kinds"};
+    static const char *const of_games[] = {"as-long-as-words:10", "whole-16-words", "whole-mended", "held-last-alone", "held-all",
+                                           "held-stalled-and-spent"};
     const unsigned long *later = own->later, *copies = own->copies;
     int which;
     for (which = 0; which < FUNCTIONS; which++)
@@ -1273,7 +1429,8 @@ static void print_form(const char *form, const struct counts *own)
     printf("%scopies equal %lu turned %lu turned-and-scaled %lu\n", form, copies[EQUAL], copies[TURNED], copies[TURNED_AND_SCALED]);
     printf("%ssums packed %lu single %lu\n", form, own->sums[PACKED], own->sums[SINGLE]);
     print_lengths(form, own);
-    print_bursts(form, own);
+    print_sorts(form, "bursts", own->bursts, of_bursts, BURSTS);
+    print_sorts(form, "games", own->games, of_games, GAMES);
 }
 
 /* The counts in tables, which the script reads. */
@@ -1284,7 +1441,9 @@ static void print_counts(void)
                                             "place-127-or-more:4"};
     unsigned long all = 0;
     int way, which;
-    printf("%5s%-9s %9s %9s %7s %7s %7s %7s", "", "result", "calls", "accepted", "C", "M", "S", "X");
+    printf("%5s%-9s %9s %9s", "", "result", "calls", "accepted");
+    for (which = 0; which < KINDS; which++)
+        printf(" %7c", letters[which]);
     for (which = 0; which < NUMBERS; which++)
         printf(" %6u", numbers[which]);
     printf("\n");
@@ -1321,7 +1480,7 @@ static void write_seed(const char *folder, size_t number, const struct bytes *bo
 {
     static struct bytes parts[3];
     const uint8_t drawn = (uint8_t)(number / SEEDS_EACH);
-    const uint8_t sizes[] = {drawn, drawn, 0, 0, 0, 0, 0, 0, (uint8_t)(17 * number), drawn, 0, 0, 0};
+    const uint8_t sizes[] = {drawn, drawn, 0, 0, 0, 0, 0, 0, (uint8_t)(17 * number), drawn, 0, 0, 0, 0};
     const uint8_t rest[] = {(uint8_t)(every ? EVERY : 0), drawn, 1, 0, (uint8_t)(drawn % 5 * 8)};
     parts[0] = *book;
     parts[1] = *edits;

@@ -7,7 +7,8 @@
  * dynamic linker on its stack too, which then looks for the C library's memcpy and the like.
  *
  * The books ask most: `large` has n 63, q 64 and 32 dual words of weight 63, in the long form n 255, q 16 and 32 of weight 255; `run` makes all 63
- * rounds, in case rounds are nested calls; `late` is refused by the last number there is for a book.
+ * rounds, in case rounds are nested calls; `late` is refused by the last number there is for a book; `sums` has the longest messages and mends the
+ * words that `large` does not, so that a game of them is read.
  */
 #define _DEFAULT_SOURCE
 #include "shiftsum.h"
@@ -42,6 +43,12 @@ struct call {
     size_t output_len;
     uint32_t refusal; /* expected */
     uint32_t rounds;  /* at least */
+    char kind;        /* expected of a game; 0: any */
+};
+
+/* A call and then its result. */
+struct made {
+    const struct call *call;
     uint32_t result;
 };
 
@@ -63,6 +70,13 @@ static uint32_t burst(const uint8_t *book, size_t book_len, const uint8_t *in, s
     return result != 0 ? result : (uint32_t)records[words - 1].rounds << 16;
 }
 
+/* As many words as fill the input. */
+static uint32_t game(const uint8_t *book, size_t book_len, const uint8_t *in, size_t in_len, uint8_t *out, size_t out_len)
+{
+    const size_t n = ((size_t)1 << book[AT_S]) - 1;
+    return shiftsum_game(book, book_len, (uint32_t)(in_len / n), in, in_len, out, out_len);
+}
+
 static uint32_t nothing(const uint8_t *book, size_t book_len, const uint8_t *in, size_t in_len, uint8_t *out, size_t out_len)
 {
     (void)book, (void)book_len, (void)in, (void)in_len, (void)out, (void)out_len;
@@ -71,14 +85,15 @@ static uint32_t nothing(const uint8_t *book, size_t book_len, const uint8_t *in,
 
 static void *run(void *argument)
 {
-    struct call *call = argument;
+    struct made *made = argument;
+    const struct call *call = made->call;
     function volatile called = call->called; /* not to be inlined */
-    call->result = called(call->book->bytes, call->book->len, input, call->input_len, output, call->output_len);
+    made->result = called(call->book->bytes, call->book->len, input, call->input_len, output, call->output_len);
     return NULL;
 }
 
 /* The bytes of a painted stack that a thread used for a call; 0 where there is no such thread. */
-static size_t measure(struct call *call)
+static size_t measure(struct made *call)
 {
     uint8_t *room = mmap(NULL, BELOW + STACK, PROT_READ | PROT_WRITE, MAP_PRIVATE | MAP_ANONYMOUS, -1, 0);
     pthread_attr_t attributes;
@@ -100,20 +115,21 @@ static size_t measure(struct call *call)
 static void test(struct call call)
 {
     static const struct book none;
-    struct call alone = {"", nothing, &none, 0, 0, 0, 0, 0};
+    static const struct call empty = {"", nothing, &none, 0, 0, 0, 0, 0};
+    struct made alone = {&empty, 0}, made = {&call, 0};
     const size_t bound = call.book->n <= 63 ? SHIFTSUM_STACK : SHIFTSUM_STACK_LONG, thread_alone = measure(&alone);
-    size_t used = measure(&call);
+    size_t used = measure(&made);
     unsigned refusal, rounds;
     used = used == 0 ? 0 : used - thread_alone;
-    refusal = SHIFTSUM_REFUSAL(call.result);
-    rounds = refusal == 0 ? SHIFTSUM_ROUNDS(call.result) : 0;
+    refusal = SHIFTSUM_REFUSAL(made.result);
+    rounds = refusal == 0 ? SHIFTSUM_ROUNDS(made.result) : 0;
     printf("n %3zu, %-32s %6zu bytes of stack, fewer than %zu\n", call.book->n, call.name, used, bound);
-    if (used > 0 && used < bound && refusal == call.refusal && rounds >= call.rounds) {
+    if (used > 0 && used < bound && refusal == call.refusal && rounds >= call.rounds && (call.kind == 0 || SHIFTSUM_KIND(made.result) == call.kind)) {
         passed++;
         return;
     }
     failed++;
-    printf("failed: %s: refusal %u, rounds %u\n", call.name, refusal, rounds);
+    printf("failed: %s: refusal %u, rounds %u, result %#010x\n", call.name, refusal, rounds, (unsigned)made.result);
 }
 
 /* Product of GF(2^p), p 4 or 6. */
@@ -234,7 +250,16 @@ static void make_run(struct book *book, const struct form *form, unsigned s, uns
     }
 }
 
-/* Every function on a large codebook, on one that is refused late, and on one that takes all rounds. */
+/* g is x + 1, and the dual word has 1 at all places: a round subtracts an error at all places, an odd number, and so reaches a code word. */
+static void make_sums(struct book *book, const struct form *form, unsigned s, unsigned p)
+{
+    make_frame(book, form, s, p, (1u << s) - 1, 1);
+    book->k = book->n - 1;
+    book->bytes[AT_G] = 1, book->bytes[AT_G + 1] = 1;
+    memset(book->bytes + form->dual_words + 1, 1, book->n);
+}
+
+/* Every function but the game on a large codebook, on one that is refused late, and on one that takes all rounds. */
 static void test_all(const struct book *large, const struct book *late, const struct book *run_long)
 {
     const size_t n = large->n, k = large->k, most = SHIFTSUM_BURST_MAX;
@@ -264,23 +289,47 @@ static void test_all(const struct book *large, const struct book *late, const st
     test((struct call){"burst of 1, 32 dual words", burst, large, n, n, 0, 1, 0});
 }
 
+/* Games as the bursts, and some that are Whole: Clean words, and mended ones. */
+static void test_games(const struct book *large, const struct book *late, const struct book *run_long, const struct book *sums)
+{
+    const size_t n = large->n, k = large->k, most = SHIFTSUM_BURST_MAX;
+    memset(input, 0, sizeof input);
+    test((struct call){"game of 16, Clean, 32 dual words", game, large, most * n, most * k, 0, 0, SHIFTSUM_WHOLE});
+    /* An error in every word. */
+    memset(input, 1, most);
+    test((struct call){"game of 16, mended", game, sums, most * sums->n, most * sums->k, 0, 0, SHIFTSUM_WHOLE});
+    test((struct call){"game of 16, 32 dual words", game, large, most * n, most * k, 0, 0, SHIFTSUM_HELD});
+    test((struct call){"game of 16, refused by 8", game, late, most * n, most * k, 8, 0, 0});
+    test((struct call){"game of 17, refused by 14", game, large, WORDS * n, WORDS * k, 14, 0, 0});
+    test((struct call){"game of 16, refused by 10", game, large, most * n, most * k - 1, 10, 0, 0});
+    test((struct call){"game of 16, 63 rounds", game, run_long, most * run_long->n, most * run_long->k, 0, 0, SHIFTSUM_HELD});
+    memset(input, 0, sizeof input);
+    input[0] = 1;
+    test((struct call){"game of 1, mended", game, sums, sums->n, sums->k, 0, 0, SHIFTSUM_WHOLE});
+    test((struct call){"game of 1, 32 dual words", game, large, n, k, 0, 0, SHIFTSUM_HELD});
+}
+
 int main(void)
 {
     static const struct stored {
         const char *name;
         size_t k;
     } stored[] = {{"../books/n127p1.book", 29}, {"../books/n255p1_lines.book", 21}, {"../books/n255p2.book", 21}, {"../books/n255p4.book", 75}};
-    static struct book large, late, run_long;
+    static struct book large, late, run_long, sums;
     size_t i;
     make_large(&large);
     make_late(&late, &large, &short_form);
     make_run(&run_long, &short_form, 6, 67);
+    make_sums(&sums, &short_form, 6, 6);
     test((struct call){"check, the first call of all", check, &large, 0, 0, 0, 0, 0});
     test_all(&large, &late, &run_long);
+    test_games(&large, &late, &run_long, &sums);
     if (read_book(&large, "../books/n255p4_whole.book", 251)) {
         make_late(&late, &large, &long_form);
         make_run(&run_long, &long_form, 8, 285);
+        make_sums(&sums, &long_form, 8, 4);
         test_all(&large, &late, &run_long);
+        test_games(&large, &late, &run_long, &sums);
     }
     make_run(&run_long, &long_form, 7, 131);
     test((struct call){"decode, 63 rounds", shiftsum_decode, &run_long, run_long.n, run_long.n, 0, 63, 0});
@@ -290,6 +339,7 @@ int main(void)
             test((struct call){"read, stored, refused by 12", shiftsum_read, &large, large.n, large.k, 12, 0, 0});
             test((struct call){"decode, stored", shiftsum_decode, &large, large.n, large.n, 0, 1, 0});
             test((struct call){"burst, stored", burst, &large, large.n, large.n, 0, 1, 0});
+            test((struct call){"game, stored", game, &large, large.n, large.k, 0, 0, SHIFTSUM_WHOLE});
         }
     printf("%lu passed, %lu failed\n", passed, failed);
     return failed == 0 ? 0 : 1;

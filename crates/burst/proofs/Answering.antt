@@ -8,10 +8,11 @@ use Rattle.spec_field.specs.Answer.{answer}
 use Rattle.spec_field.proofs.Refusals.{found-first, found-next}
 use Rattle.spec_book.specs.Layout.{fieldOf}
 use Rattle.spec_book.specs.Conditions.{refusal}
+use Rattle.spec_book.proofs.Inputs.{words-low, words-high}
 use Rattle.spec_decoding.specs.Decode.{Result}
 use Rattle.spec_operations.specs.Burst.{burstInputRefusal, burstRefusal, answersOf, recordsOf, lastEntries}
 use Rattle.spec_operations.specs.Decoding.{matrixSize}
-use Rattle.spec_operations.proofs.Burst.{TakenBurst, words-low, words-high}
+use Rattle.spec_operations.proofs.Burst.{TakenBurst}
 use Rattle.spec_operations.proofs.Wrote.{left-refused, left-done}
 use Rattle.book.specs.Params.{Describes}
 use Rattle.book.specs.declared.Params.{Params}

@@ -33,7 +33,7 @@ none-blank e = record { blank-at = λ k l. ap (λ (xs : List Record). recordAt x
     all-blank (suc n) (suc k) = all-blank n k
 
 -- the next n places of a buffer are written
-put-next : (n a : ℕ) (xs old v : List ℕ) → length xs ≡ a → putMid a (a + n - a) (xs ++ drop a old) v ≡ (xs ++ v) ++ drop (a + n) old
+pub put-next : (n a : ℕ) (xs old v : List ℕ) → length xs ≡ a → putMid a (a + n - a) (xs ++ drop a old) v ≡ (xs ++ v) ++ drop (a + n) old
 put-next n a xs old v e =
     ap₂ (λ (l r : List ℕ). l ++ (v ++ r)) (take-at xs (drop a old) a e)
     (post-is a (a + n) (xs ++ drop a old) (omega arith)

@@ -64,7 +64,7 @@ pub fn read(book: &[u8], word: &[u8], message: &mut [u8]) -> Done
 }
 
 // The same once the book is open: one division tells whether it is a code word, and gives the message.
-fn read_word(c: Params, t: &[u8], word: &[u8], message: &mut [u8]) -> Done
+pub fn read_word(c: Params, t: &[u8], word: &[u8], message: &mut [u8]) -> Done
     requires { ⌜ SomeBook c (now t) ⌝ }
     ensures { λ r. ⌜ ((bytes : List ℕ) → OpenBook bytes c (now (t .entry))
         → Wrote (readWordRefusal bytes (now (word .entry)) (length (now (message .entry))))

@@ -28,12 +28,12 @@ const MARKS: usize = 2 * (FEW_SYMBOLS - 1) * 2 * BLOCK;
 const COUNTERS: usize = FEW_SYMBOLS * BLOCK;
 // The symbols of longer words, where they are few.
 const LONG_SYMBOLS: usize = 4;
-// The same for these, and their table of multiples.
+// The same for these.
 const LONG_MARKS: usize = 2 * (LONG_SYMBOLS - 1) * STRIDE;
 
 const LONG_COUNTERS: usize = LONG_SYMBOLS * SPAN;
-
-const LONG_TABLE: usize = LONG_SYMBOLS * STRIDE;
+// The places of a table of multiples of any word, where symbols are few.
+const MULTIPLES: usize = LONG_SYMBOLS * STRIDE;
 
 // The marks of a block: where it has the symbol s.
 fn marked(w: [u8; BLOCK], s: u8) -> [u8; BLOCK]
@@ -238,24 +238,32 @@ fn count_duals(
     }
 }
 
-// Fills the matrix in lent rooms for the table, the marks and the counters, which are zero.
+// Room for the table of a word's multiples, short or long.
+fn multiples_room() -> [u8; MULTIPLES]
+    ensures { λ r. ⌜ 2048 ≡ length r ⌝ }
+{
+    [0; MULTIPLES]
+}
+
+// Fills the matrix in lent rooms for the marks and the counters, which are zero. The table has its room here, where it takes no stack of the other way to
+// count a matrix.
 fn fill_in(
     p: u8,
     n: usize,
     duals: usize,
     terms: &[u16],
     r: &[u8],
-    t: &mut [u8],
     v: &mut [u8],
     counts: &mut [u16],
     m: &mut [u16],
 )
-    requires { ⌜ Filling (stride n) p n duals (now terms) (now r) (now m) × (stride n * 2 ^ p ≤ length (now t))
+    requires { ⌜ Filling (stride n) p n duals (now terms) (now r) (now m) × (stride n * 2 ^ p ≤ 2048)
         × Rooms (stride n) (span n) p (now v) (now counts) ⌝ }
     ensures { λ _. ⌜ ((b : ℕ → ℕ → ℕ) → TermsOf (stride n) p n duals b (now (terms .entry)) → now (m .exit) ≡ counted p n b duals (at n (now (r .entry)))) ⌝ }
 {
-    word_table::tabulate(p, n, r, 0, t);
-    count_duals(p, n, duals, terms, t, v, counts);
+    let mut t = multiples_room();
+    word_table::tabulate(p, n, r, 0, &mut t);
+    count_duals(p, n, duals, terms, &t, v, counts);
     gather(p, n, sizes::blocks(n), terms, counts, m);
     matrix_terms::row_zero(p, n, (duals as u16) * terms[0], m);
 }
@@ -274,7 +282,7 @@ fn counters() -> [u16; COUNTERS]
     [0; COUNTERS]
 }
 
-// The same for longer words, and room for their table.
+// The same for longer words.
 fn long_mark_room() -> [u8; LONG_MARKS]
     ensures { λ r. ⌜ 3072 ≡ length r ⌝ }
 {
@@ -287,21 +295,14 @@ fn long_counters() -> [u16; LONG_COUNTERS]
     [0; LONG_COUNTERS]
 }
 
-fn long_table_room() -> [u8; LONG_TABLE]
-    ensures { λ r. ⌜ 2048 ≡ length r ⌝ }
-{
-    [0; LONG_TABLE]
-}
-
 // Fills the matrix of a word of a single block: to clear more room costs time.
 fn fill_short(p: u8, n: usize, duals: usize, terms: &[u16], r: &[u8], m: &mut [u16])
     requires { ⌜ Filling (stride n) p n duals (now terms) (now r) (now m) × (p ≤ 3) × (n < 64) ⌝ }
     ensures { λ _. ⌜ ((b : ℕ → ℕ → ℕ) → TermsOf (stride n) p n duals b (now (terms .entry)) → now (m .exit) ≡ counted p n b duals (at n (now (r .entry)))) ⌝ }
 {
-    let mut t = word_table::few_table_room();
     let mut v = mark_room();
     let mut counts = counters();
-    fill_in(p, n, duals, terms, r, &mut t, &mut v, &mut counts, m);
+    fill_in(p, n, duals, terms, r, &mut v, &mut counts, m);
 }
 
 // The same of a longer word.
@@ -309,10 +310,9 @@ fn fill_long(p: u8, n: usize, duals: usize, terms: &[u16], r: &[u8], m: &mut [u1
     requires { ⌜ Filling (stride n) p n duals (now terms) (now r) (now m) × (p ≤ 2) ⌝ }
     ensures { λ _. ⌜ ((b : ℕ → ℕ → ℕ) → TermsOf (stride n) p n duals b (now (terms .entry)) → now (m .exit) ≡ counted p n b duals (at n (now (r .entry)))) ⌝ }
 {
-    let mut t = long_table_room();
     let mut v = long_mark_room();
     let mut counts = long_counters();
-    fill_in(p, n, duals, terms, r, &mut t, &mut v, &mut counts, m);
+    fill_in(p, n, duals, terms, r, &mut v, &mut counts, m);
 }
 
 // Fills the matrix of the word r over the dual words whose terms are listed.

@@ -1,6 +1,9 @@
 // The refusals 9 to 11, which every operation on a book has, the test for 14, and the answer of an operation that writes one buffer.
 ghost use mathlib.Core.Path.{_≡_};
-ghost use Rattle.spec_book.specs.Conditions.{wordsOk, messageFits, inputOk, inputRefusal};
+ghost use Prim.Native.Nat.{_*_, _≤_};
+ghost use lib.Dec.{eqb};
+ghost use lib.ListN.{length};
+ghost use Rattle.spec_book.specs.Conditions.{unless, wordsOk, messageFits, inputOk, inputRefusal};
 
 // The buffer is written, or the call is refused with the number of SCOPE 7.
 pub enum Done {
@@ -49,4 +52,23 @@ pub fn refusal(q: u8, fits: bool, exact: bool, input: &[u8]) -> u8
         return 11;
     }
     0
+}
+
+// The same for M words at once, after 14: the input has `size` symbols a word, and of the output's `room` bytes `wanted` are asked a word. Nothing is multiplied
+// by M before M is known to be small.
+pub fn words_refusal(q: u8, words: u32, input: &[u8], size: usize, room: usize, wanted: usize) -> u8
+    requires { ⌜ (size ≤ 255) × (wanted ≤ 255) ⌝ }
+    ensures { λ r. ⌜ r ≡ unless (wordsOk words) 14
+        (inputRefusal q (eqb (length (now (input .entry))) (size * words)) (eqb room (wanted * words)) (now (input .entry))) ⌝ }
+{
+    if words_ok(words) {
+        let count = words as usize;
+        return refusal(
+            q,
+            input.len() == size * count,
+            room == wanted * count,
+            input,
+        );
+    }
+    14
 }

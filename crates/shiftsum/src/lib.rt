@@ -1,4 +1,4 @@
-// The C boundary: check, code, read, remainder, decode and burst on numbers and slices. A `&[u8]` is a pointer and a length in C. The matrix is a local buffer.
+// The C boundary: check, code, read, remainder, decode, burst and game on numbers and slices. A `&[u8]` is a pointer and a length in C. The matrix is a local buffer.
 ghost use mathlib.Core.Path.{_≡_};
 ghost use mathlib.Core.Bool.{true, false};
 ghost use mathlib.Core.List.{[]};
@@ -9,18 +9,21 @@ ghost use Rattle.spec_operations.specs.Coding.{codeRefusal, coded, readRefusal,
 ghost use Rattle.spec_operations.specs.Remainder.{remainderRefusal, remainderOf};
 ghost use Rattle.spec_operations.specs.Decoding.{matrixSize, decodeRefusal, decodeBytes, values};
 ghost use Rattle.spec_operations.specs.Burst.{burstRefusal, burstWord, ReturnsBurst};
+ghost use Rattle.spec_operations.specs.Game.{gameRefusal, gameHeld, gameValues, gameMessages};
 ghost use Rattle.spec_operations.specs.Packed.{packed, Returns};
 ghost use Rattle.refusals.specs.Said as done;
 ghost use Rattle.book.specs.Params as checks;
 ghost use Rattle.book.specs.Opened.{fewSymbols};
 ghost use Rattle.decode.specs.Decoded as decodes;
 ghost use Rattle.burst.specs.Said.{listBytes};
+ghost use Rattle.game.specs.Said as games;
 ghost use Rattle.shiftsum.specs.Made.{Made};
 use book::Checked;
 use burst::Burst;
 use burst::Record;
 use burst::record_at;
 use decode::Decoded;
+use game::Game;
 use refusals::Done;
 use sizes::FEW_MATRIX;
 use sizes::LONG_FEW_MATRIX;
@@ -57,6 +60,17 @@ fn pack_decoded(r: Decoded) -> u32
                 + 16777216 * (decode::letter(kind) as u32)
         }
         Decoded::Refused(number) => number as u32,
+    }
+}
+
+// The result of a game: how many words are held, and the letter, W or H.
+fn pack_game(r: Game) -> u32
+    ensures { λ x. ⌜ x ≡ packed (games.said r) ⌝ }
+{
+    match r {
+        Game::Whole => 16777216 * (b'W' as u32),
+        Game::Held(count) => 256 * (count as u32) + 16777216 * (b'H' as u32),
+        Game::Refused(number) => number as u32,
     }
 }
 
@@ -270,4 +284,19 @@ pub extern "C" fn shiftsum_burst(
         m += 1;
     }
     made.number as u32
+}
+
+// Take a game: its messages, all or none.
+#[no_mangle]
+pub extern "C" fn shiftsum_game(
+    book: &[u8],
+    words: u32,
+    received: &[u8],
+    messages: &mut [u8],
+) -> u32
+    ensures { λ r. ⌜ Returns (gameRefusal (now (book .entry)) words (now (received .entry)) (length (now (messages .entry))))
+        (gameValues (gameHeld (now (book .entry)) words (now (received .entry))))
+        (gameMessages (now (book .entry)) words (now (received .entry)) (now (messages .entry))) (now (messages .entry)) r (now (messages .exit)) ⌝ }
+{
+    pack_game(game::take(book, words, received, messages))
 }

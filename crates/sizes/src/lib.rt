@@ -42,6 +42,10 @@ pub const DUALS: usize = 32;
 pub const BOOK: usize = 8454;
 // The most words of a burst.
 pub const BURST: usize = 16;
+// The places of so many words, of a short book and of any.
+pub const BURST_PLACES: usize = 1008;
+
+pub const LONG_BURST_PLACES: usize = 4080;
 
 // How many blocks a word of n symbols takes.
 pub fn blocks(n: usize) -> usize

@@ -12,8 +12,19 @@ use Rattle.spec_range.proofs.Tests.{eq→eqb, cond-true, and-left, and-right, a
 use Rattle.spec_range.proofs.Table.{all-at, all-of}
 use Rattle.spec_field.specs.Field.{FieldOps}
 use Rattle.spec_word.specs.Word.{IsWord}
-use Rattle.spec_book.specs.Conditions.{messageFits, inputOk, inputRefusal}
+use Rattle.spec_book.specs.Conditions.{wordsOk, messageFits, inputOk, inputRefusal}
 use Rattle.spec_book.proofs.Sound.{passed}
+
+-- ---- the count of words
+
+module _ (words : ℕ) where
+  pub words-low : T (wordsOk words) → 1 ≤ words
+  unfolding wordsOk
+  words-low t = leb→le 1 words (and-left (leb 1 words) (leb words 16) t)
+
+  pub words-high : T (wordsOk words) → words ≤ 16
+  unfolding wordsOk
+  words-high t = leb→le words 16 (and-right (leb 1 words) (leb words 16) t)
 
 -- ---- the size of a message
 

@@ -1,5 +1,5 @@
--- Cases 1 to 14, the remainders, the words that are alike, the short messages, the forms, the packed numbers and the bursts, each list proved together of the
--- definitions, and that the books they use are accepted.
+-- Cases 1 to 14, the remainders, the words that are alike, the short messages, the forms, the packed numbers, the bursts and the games, each list proved
+-- together of the definitions, and that the books they use are accepted.
 -- Assumes nothing.
 use mathlib.Core.Path.{refl}
 use Rattle.spec_range.specs.Fold.{fold}
@@ -19,7 +19,8 @@ use Rattle.spec_decoding.specs.Decode.{peak, zeroCount, peakCount, holders, inU
 use Rattle.spec_decoding.specs.Symmetry.{move}
 use Rattle.spec_operations.specs.Coding.{codeInputRefusal, codeRefusal}
 use Rattle.spec_operations.specs.Burst.{burstInputRefusal, burstRefusal}
-use Rattle.spec_cases.specs.Cases.{checks, codes, reads, declines, fills, decodes, holds, leaves, compares, bursts, burstDeclines, moved, packs, unpacks, cases, remainders, likenesses, shorts, forms, packings, burstCases, accepted, AllHold, none, _also_}
+use Rattle.spec_operations.specs.Game.{gameInputRefusal, gameRefusal}
+use Rattle.spec_cases.specs.Cases.{checks, codes, reads, declines, fills, decodes, holds, leaves, compares, bursts, burstDeclines, games, gameDeclines, moved, packs, unpacks, cases, remainders, likenesses, shorts, forms, packings, burstCases, gameCases, accepted, AllHold, none, _also_}
 
 pub cases-hold : AllHold cases
 unfolding codes fills decodes holds moved fold table polynomial timesX shiftAdd product first inverse W.at W.distance W.turn W.product W.scale W.plus before allZero reduce remainder isCode width degreeOf bookOf encode checkSum checkValue entryOf matrixOf cell peak zeroCount peakCount holders inUpdateSet correction emptyUpdateSet corrected run decodeWith move
@@ -48,6 +49,10 @@ packings-hold = refl also refl also refl also refl also refl also none
 pub bursts-hold : AllHold burstCases
 unfolding bursts burstDeclines mixed unmixed joined burstInputRefusal burstRefusal wordsOk inputOk inputRefusal fold table polynomial timesX shiftAdd product first inverse W.at W.weight W.distance W.product isMultipleOfTurn alike before allZero reduce remainder divides unity isCode width degreeOf bookOf lengthFits lengthOk kindsOk sizesOk bodyOk symbolsOk generatorOk limitsOk dualOk dualsOk distinctOk bookRefusal refusal checkSum checkValue entryOf matrixOf cell peak zeroCount peakCount holders inUpdateSet correction emptyUpdateSet corrected run decodeWith
 bursts-hold = refl also refl also refl also refl also refl also refl also refl also refl also refl also refl also refl also refl also none
+
+pub games-hold : AllHold gameCases
+unfolding games gameDeclines unmixed joined gameInputRefusal gameRefusal wordsOk inputOk inputRefusal fold table polynomial timesX shiftAdd product first inverse W.at W.weight W.distance W.product isMultipleOfTurn alike before allZero reduce remainder quotient divides unity isCode message width degreeOf bookOf lengthFits lengthOk kindsOk sizesOk bodyOk symbolsOk generatorOk limitsOk dualOk dualsOk distinctOk bookRefusal refusal checkSum checkValue entryOf matrixOf cell peak zeroCount peakCount holders inUpdateSet correction emptyUpdateSet corrected run decodeWith
+games-hold = refl also refl also refl also refl also refl also refl also refl also refl also refl also refl also refl also none
 
 pub books-accepted : AllHold accepted
 unfolding checks fold table polynomial timesX shiftAdd product W.weight W.product before allZero reduce remainder divides unity width degreeOf bookOf lengthFits lengthOk kindsOk sizesOk bodyOk symbolsOk generatorOk limitsOk dualOk dualsOk distinctOk bookRefusal refusal

@@ -1,5 +1,5 @@
--- SCOPE 8: The worked cases 1 to 14, remainders, words that are alike, short messages, forms, packed numbers and bursts: what the definitions give, and what
--- SCOPE.md has.
+-- SCOPE 8: The worked cases 1 to 14, remainders, words that are alike, short messages, forms, packed numbers, bursts and games: what the definitions give,
+-- and what SCOPE.md has.
 -- Assumes nothing.
 use mathlib.Core.Path.{_≡_}
 use mathlib.Core.Bool.{Bool, true, false}
@@ -22,6 +22,7 @@ use Rattle.spec_decoding.specs.Decode.{Kind, holders, decode, mended, stalled, 
 use Rattle.spec_decoding.specs.Symmetry.{move}
 use Rattle.spec_operations.specs.Coding.{codeRefusal}
 use Rattle.spec_operations.specs.Burst.{burstRefusal, burstWord, answersOf, recordsOf, lastEntries}
+use Rattle.spec_operations.specs.Game.{gameRefusal, gameHeld, gameValues, gameMessages}
 use Rattle.spec_cases.specs.Books.{bodyOf, bookBytes, bookA, bookB, bookC, headed}
 
 -- SCOPE 8.18: what is shown of an operation: numbers, or a kind, rounds, changed and the answer word
@@ -126,6 +127,20 @@ unfoldable pub burstDeclines : List ℕ → ℕ → List ℕ → ℕ → ℕ →
 burstDeclines book words r answers list entries =
     let bytes = book in
     burstRefusal bytes words r answers list entries
+
+-- SCOPE 4.42, 4.44: the values of a game, and the message buffer, which held `old`
+unfoldable pub games : List ℕ → ℕ → List ℕ → List ℕ → List (List ℕ)
+games book words r old =
+    let bytes = book in
+    let values = gameValues (gameHeld bytes words r) in
+    let messages = gameMessages bytes words r old in
+    values ∷ messages ∷ []
+
+-- SCOPE 7.18: the number of a game with this size of its messages
+unfoldable pub gameDeclines : List ℕ → ℕ → List ℕ → ℕ → ℕ
+gameDeclines book words r messages =
+    let bytes = book in
+    gameRefusal bytes words r messages
 
 -- SCOPE 5.11: the word w turned by t, times c, plus v
 unfoldable pub moved : List ℕ → ℕ → ℕ → List ℕ → List ℕ → List ℕ
@@ -289,6 +304,31 @@ burstCases =
     ∷ (burstDeclines (bookA 1) 3 threeMixed 21 3 13 ≡ 10)
     ∷ (burstDeclines (bookA 1) 1 (0 ∷ 0 ∷ 0 ∷ 0 ∷ 0 ∷ 0 ∷ 2 ∷ []) 7 1 14 ≡ 11)
     ∷ (burstDeclines (bookA 1) 3 threeMixed 21 3 14 ≡ 0)
+    ∷ []
+
+-- SCOPE 8.26: games
+abbrev pub gameCases : List (Type 0)
+gameCases =
+    -- A: the three words of 8.25 are Mended, Mended and Clean: Whole, with the messages 0000 1000 1000
+    (games (bookA 1) 3 threeMixed (9 ∷ 9 ∷ 9 ∷ 9 ∷ 9 ∷ 9 ∷ 9 ∷ 9 ∷ 9 ∷ 9 ∷ 9 ∷ 9 ∷ [])
+    ≡ (0 ∷ 0 ∷ 87 ∷ []) ∷ (0 ∷ 0 ∷ 0 ∷ 0 ∷ 1 ∷ 0 ∷ 0 ∷ 0 ∷ 1 ∷ 0 ∷ 0 ∷ 0 ∷ []) ∷ [])
+    -- B: 311, 120 and 111, mixed as 311 121 101, are Mended, Stalled and Clean: Held, 1, and the buffer stays
+    ∷ (games bookB 3 (3 ∷ 1 ∷ 1 ∷ 1 ∷ 2 ∷ 1 ∷ 1 ∷ 0 ∷ 1 ∷ []) (9 ∷ 9 ∷ 9 ∷ []) ≡ (1 ∷ 0 ∷ 72 ∷ []) ∷ (9 ∷ 9 ∷ 9 ∷ []) ∷ [])
+    -- B: 311 and 111, mixed as 31 11 11: Whole, with the messages 1 and 1
+    ∷ (games bookB 2 (3 ∷ 1 ∷ 1 ∷ 1 ∷ 1 ∷ 1 ∷ []) (9 ∷ 9 ∷ []) ≡ (0 ∷ 0 ∷ 87 ∷ []) ∷ (1 ∷ 1 ∷ []) ∷ [])
+    -- B: 120 and 132, mixed as 11 23 02, are both Stalled: Held, 2
+    ∷ (games bookB 2 (1 ∷ 1 ∷ 2 ∷ 3 ∷ 0 ∷ 2 ∷ []) (9 ∷ 8 ∷ []) ≡ (2 ∷ 0 ∷ 72 ∷ []) ∷ (9 ∷ 8 ∷ []) ∷ [])
+    -- A: with D 7, 1101000 and 1000000 are Clean and Spent: Held, 1
+    ∷ (games (bookA 7) 2 (1 ∷ 1 ∷ 1 ∷ 0 ∷ 0 ∷ 0 ∷ 1 ∷ 0 ∷ 0 ∷ 0 ∷ 0 ∷ 0 ∷ 0 ∷ 0 ∷ []) (9 ∷ 9 ∷ 9 ∷ 9 ∷ 9 ∷ 9 ∷ 9 ∷ 9 ∷ [])
+    ≡ (1 ∷ 0 ∷ 72 ∷ []) ∷ (9 ∷ 9 ∷ 9 ∷ 9 ∷ 9 ∷ 9 ∷ 9 ∷ 9 ∷ []) ∷ [])
+    -- A: the number is 14 for 0 words and for 17, also where the lengths are wrong, and for 16 it is 9 then
+    ∷ (gameDeclines (bookA 1) 0 [] 0 ≡ 14)
+    ∷ (gameDeclines (bookA 1) 17 threeMixed 0 ≡ 14)
+    ∷ (gameDeclines (bookA 1) 16 threeMixed 0 ≡ 9)
+    -- A: the number is 10 for 21 bytes of messages, which is n × M, and 0 for 12, which is k × M; 11 for a symbol 2
+    ∷ (gameDeclines (bookA 1) 3 threeMixed 21 ≡ 10)
+    ∷ (gameDeclines (bookA 1) 3 threeMixed 12 ≡ 0)
+    ∷ (gameDeclines (bookA 1) 1 (0 ∷ 0 ∷ 0 ∷ 0 ∷ 0 ∷ 0 ∷ 2 ∷ []) 4 ≡ 11)
     ∷ []
 
 -- every case of a list holds

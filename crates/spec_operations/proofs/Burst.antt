@@ -3,9 +3,9 @@
 use mathlib.Core.Path.{_≡_, _∙_, sym, subst}
 use mathlib.Core.Bool.{_&&_}
 use mathlib.Core.List.{List}
-use Prim.Native.Nat.{ℕ, _+_, _*_, _≤_, _<_}
+use Prim.Native.Nat.{ℕ, _+_, _*_, _<_}
 use lib.Arith.{digits-lt}
-use lib.Dec.{T, eqb, eqb→eq, leb, leb→le}
+use lib.Dec.{T, eqb, eqb→eq}
 use lib.ListN.{length, getD}
 use Rattle.spec_range.proofs.Tests.{eq→eqb, and-left, and-right, and-both, cond-true}
 use Rattle.spec_field.specs.Field.{FieldOps}
@@ -18,16 +18,6 @@ use Rattle.spec_book.proofs.Inputs.{accepted-input, input-accepted}
 use Rattle.spec_book.proofs.Sound.{passed}
 use Rattle.spec_operations.specs.Decoding.{matrixSize}
 use Rattle.spec_operations.specs.Burst.{burstSize, burstInputRefusal}
-
--- ---- the count of words
-
-pub words-low : (words : ℕ) → T (wordsOk words) → 1 ≤ words
-unfolding wordsOk
-words-low words t = leb→le 1 words (and-left (leb 1 words) (leb words 16) t)
-
-pub words-high : (words : ℕ) → T (wordsOk words) → words ≤ 16
-unfolding wordsOk
-words-high words t = leb→le words 16 (and-right (leb 1 words) (leb words 16) t)
 
 -- ---- a burst that is taken
 

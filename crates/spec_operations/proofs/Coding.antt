@@ -15,7 +15,7 @@ use Rattle.spec_field.specs.Field.{FieldOps, FieldLaws}
 use Rattle.spec_field.specs.Answer.{Answer, orElse}
 use Rattle.spec_field.proofs.Laws.{zero-below}
 use Rattle.spec_field.proofs.Refusals.{found-first, found-next, neither}
-use Rattle.spec_word.specs.Word.{at, product}
+use Rattle.spec_word.specs.Word.{IsWord, at, product}
 use Rattle.spec_word.specs.Division.{before, coefficients, quotient}
 use Rattle.spec_word.proofs.Sums.{Symbols}
 use Rattle.spec_word.proofs.Product.{product-below}
@@ -26,7 +26,7 @@ use Rattle.spec_book.specs.Layout.{fieldOf, bookOf}
 use Rattle.spec_book.specs.Conditions.{unless, refusal, messageFits, codeWordRefusal}
 use Rattle.spec_book.proofs.Sound.{passed}
 use Rattle.spec_book.proofs.Known.{book-laws, book-accepted}
-use Rattle.spec_book.proofs.Inputs.{fits-high, full-fits, AcceptedInput, accepted-input, input-accepted}
+use Rattle.spec_book.proofs.Inputs.{fits-high, full-fits, AcceptedInput, accepted-input, input-accepted, word-input}
 use Rattle.spec_coding.specs.Coder.{writtenOut, encode, message}
 use Rattle.spec_coding.proofs.Coder.{encode-code, message-encode, encode-message}
 use Rattle.spec_operations.specs.Wrote.{Wrote}
@@ -133,14 +133,25 @@ module _ (bytes : List ℕ) where
     symbols : Symbols F (coefficients f)
     symbols = input-symbols F (book-laws bytes ok) (code-accepted f room z .1)
 
+    -- its word is a word, and a code word
+    pub coded-word : IsWord F (B .n) (coded bytes f)
+    unfolding encode
+    coded-word =
+        record {
+          size = table-length (B .n) _;
+          symbol = λ j l.
+              subst (λ (x : ℕ). x < F .q) (sym (table-at (B .n) _ l))
+              (product-below F (book-laws bytes ok) (B .n) (coefficients f) (λ j. B .generator (j % B .n)) j);
+        }
+
+    pub coded-code : T (isCodeWord F B (at (B .n) (coded bytes f)))
+    coded-code = encode-code F (book-laws bytes ok) B (book-accepted bytes ok) f size symbols
+
     pub coded-accepted : (back : ℕ) → back ≡ messageLength B → readRefusal bytes (coded bytes f) back ≡ 0
-    unfolding readRefusal readWordRefusal readInputRefusal codeWordRefusal encode
+    unfolding readRefusal readWordRefusal readInputRefusal codeWordRefusal
     coded-accepted back e =
         ap₂ orElse ok
-        (ap₂ orElse
-        (input-accepted (table-input F (B .n) (product F (B .n) (coefficients f) (λ j. B .generator (j % B .n))) (eq→eqb (table-length (B .n) _)) (eq→eqb e)
-        (product-below F (book-laws bytes ok) (B .n) (coefficients f) (λ j. B .generator (j % B .n)))))
-        (cond-true (isCodeWord F B (at (B .n) (coded bytes f))) 0 12 (encode-code F (book-laws bytes ok) B (book-accepted bytes ok) f size symbols)))
+        (ap₂ orElse (input-accepted (word-input coded-word (eq→eqb e))) (cond-true (isCodeWord F B (at (B .n) (coded bytes f))) 0 12 coded-code))
 
     pub coded-read : messageOf bytes (coded bytes f) ≡ writtenOut B f
     coded-read = message-encode F (book-laws bytes ok) B (book-accepted bytes ok) f size symbols

@@ -6,3 +6,4 @@ pub mod Packed
 pub mod Short
 pub mod Decoding
 pub mod Burst
+pub mod Game

@@ -1,11 +1,12 @@
 -- The bytes of a packed result are the refusal number and the values: what a caller reads off it by shifts and masks.
 -- Assumes nothing.
 use mathlib.Core.Path.{_≡_}
-use Prim.Native.Nat.{ℕ, _/_, _%_, _<_}
+use Prim.Native.Nat.{ℕ, zero, suc, _/_, _%_, _<_}
 use mathlib.Core.List.{[], _∷_}
 use native.Mathlib.Omega.{arith}
 use Rattle.spec_field.specs.Answer.{Answer, done, refused}
 use Rattle.spec_operations.specs.Packed.{packed}
+use Rattle.spec_operations.specs.Game.{gameLetter, gameValues}
 
 -- byte 0, 1, 2 and 3 of a packed answer
 pub record Bytes (a : Answer) (b₀ b₁ b₂ b₃ : ℕ) : Type 0 where
@@ -31,3 +32,11 @@ written-bytes = record { number = omega arith; first = omega arith; second = ome
 pub decoded-bytes : (changed rounds letter : ℕ) → changed < 256 → rounds < 256 → letter < 256 → Bytes (done (changed ∷ rounds ∷ letter ∷ [])) 0 changed rounds letter
 decoded-bytes changed rounds letter c r l =
     record { number = omega arith; first = omega arith; second = omega arith; third = omega arith; small = omega arith }
+
+-- game: the count held, 0 and the letter
+pub game-bytes : (held : ℕ) → held < 256 → Bytes (done (gameValues held)) 0 held 0 (gameLetter held)
+game-bytes held h = decoded-bytes held 0 (gameLetter held) h (omega arith) (letter-low held)
+  where
+    letter-low : (held : ℕ) → gameLetter held < 256
+    letter-low zero = omega arith
+    letter-low (suc held) = omega arith

@@ -7,5 +7,7 @@ pub mod Packed
 pub mod Twice
 pub mod Burst
 pub mod BurstTwice
+pub mod Game
+pub mod GameTrips
 pub mod Trips
 pub mod Short

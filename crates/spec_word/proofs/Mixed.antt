@@ -3,12 +3,12 @@
 use mathlib.Core.Path.{_≡_, refl, sym, ap, ap₂, _∙_, subst}
 use mathlib.Core.List.{List, _++_}
 use mathlib.Core.Logic.{_⊎_, inl, inr}
-use Prim.Native.Nat.{ℕ, zero, suc, _+_, _*_, _/_, _%_, _<_}
-use native.Mathlib.Nat.{le-step, le-refl, eq-or-lt-of-le, le-of-suc-le-suc, not-suc-le-zero, mul-zero, mod-lt, zero-lt-suc, div-add-mod', div-lt-iff-lt-mul}
+use Prim.Native.Nat.{ℕ, zero, suc, _+_, _*_, _/_, _%_, _≤_, _<_}
+use native.Mathlib.Nat.{le-step, le-refl, eq-or-lt-of-le, le-of-suc-le-suc, not-suc-le-zero, mul-zero, mul-comm, mod-lt, zero-lt-suc, div-add-mod', div-lt-iff-lt-mul}
 use native.Mathlib.Omega.{arith}
 use lib.Arith.{digits-lt, digits-div, digits-mod}
-use lib.ListN.{length, getD, length-append, List·getD-append}
-use lib.Seq.{ext-getD, getD-append-add}
+use lib.ListN.{length, getD, take, drop, length-drop, length-append, List·getD-append}
+use lib.Seq.{ext-getD, getD-append-add, getD-take, getD-drop, length-take-le}
 use Rattle.spec_range.proofs.Table.{table-length, table-at}
 use Rattle.spec_word.specs.Mixed.{mixed, unmixed, joined, part}
 
@@ -109,3 +109,35 @@ part-joined n count f h {i} l =
     ext-getD 0 (part n (joined count f) i) (f i) (table-length n _ ∙ sym (h i l)) (λ j b.
     let below : j < n = subst (λ (k : ℕ). j < k) (table-length n _) b in
     table-at n _ below ∙ joined-at n count f h l below)
+
+-- ---- a list in parts
+
+pub part-length : (n : ℕ) (x : List ℕ) (i : ℕ) → length (part n x i) ≡ n
+unfolding part
+part-length n x i = table-length n _
+
+pub part-at : (n : ℕ) (x : List ℕ) (i : ℕ) {j : ℕ} → j < n → getD (part n x i) j 0 ≡ getD x (i * n + j) 0
+unfolding part
+part-at n x i l = table-at n _ l
+
+-- the list is had again from its parts
+pub joined-parts : (n count : ℕ) (x : List ℕ) → length x ≡ n * count → joined count (part n x) ≡ x
+joined-parts n count x e =
+    ext-getD 0 (joined count (part n x)) x (long ∙ mul-comm count n ∙ sym e) (λ k l.
+    let below : k < count * n = subst (λ (a : ℕ). k < a) long l in
+    ap (λ (a : ℕ). getD (joined count (part n x)) a 0) (sym (div-add-mod' k n))
+    ∙ joined-at n count (part n x) (λ i _. part-length n x i) (row-below count n k below) (word-below count n k below)
+    ∙ part-at n x (k / n) (word-below count n k below) ∙ ap (λ (a : ℕ). getD x a 0) (div-add-mod' k n))
+  where
+    long : length (joined count (part n x)) ≡ count * n
+    long = joined-length n count (part n x) (λ i _. part-length n x i)
+
+-- a part is what stands there
+pub part-taken : (n : ℕ) (x : List ℕ) (i : ℕ) → i * n + n ≤ length x → take n (drop (i * n) x) ≡ part n x i
+part-taken n x i h =
+    ext-getD 0 (take n (drop (i * n) x)) (part n x i) (long ∙ sym (part-length n x i)) (λ j l.
+    let below : j < n = subst (λ (k : ℕ). j < k) long l in
+    getD-take n (drop (i * n) x) j 0 below ∙ getD-drop (i * n) x j 0 ∙ sym (part-at n x i below))
+  where
+    long : length (take n (drop (i * n) x)) ≡ n
+    long = length-take-le n (drop (i * n) x) (omega (arith, length-drop (i * n) x))

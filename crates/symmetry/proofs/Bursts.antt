@@ -14,16 +14,17 @@ use Rattle.spec_word.proofs.Mixed.{mixed-length, mixed-symbol, unmixed-mixed, j
 use Rattle.spec_book.specs.Book.{Book}
 use Rattle.spec_book.specs.Layout.{fieldOf, bookOf}
 use Rattle.spec_book.specs.Conditions.{refusal, wordsOk}
+use Rattle.spec_book.proofs.Inputs.{words-low}
 use Rattle.spec_decoding.specs.Decode.{Result}
 use Rattle.spec_decoding.specs.Symmetry.{move, Moved}
 use Rattle.spec_decoding.proofs.Demand3.{moved-word, answer-word, demand-3}
 use Rattle.spec_operations.specs.Decoding.{decodeBytes}
 use Rattle.spec_operations.specs.Burst.{burstInputRefusal, burstRefusal, burstWord, recordOf, Bursts}
 use Rattle.spec_operations.specs.BurstTwice.{BurstSizes, GivenBursts, RelatedBursts}
-use Rattle.spec_operations.proofs.Burst.{words-low, burst-taken}
+use Rattle.spec_operations.proofs.Decoding.{symbol-list, is-word}
+use Rattle.spec_operations.proofs.Burst.{burst-taken}
 use Rattle.burst.specs.Said.{said, madeBytes, Answered}
 use Rattle.burst.specs.declared.Burst.{Burst}
-use Rattle.symmetry.proofs.Twice.{symbol-list, is-word}
 
 -- ---- a burst of words
 

@@ -2,33 +2,23 @@
 -- Assumes nothing.
 use mathlib.Core.Path.{_≡_, refl, sym, ap, _∙_, subst}
 use mathlib.Core.List.{List}
-use Prim.Native.Nat.{ℕ, _%_, _<_}
-use native.Mathlib.Nat.{mod-lt}
+use Prim.Native.Nat.{ℕ}
 use Rattle.spec_field.specs.Answer.{Answer, answer, left}
 use Rattle.spec_field.proofs.Refusals.{found-next}
-use Rattle.spec_word.specs.Word.{IsWord, at}
-use Rattle.spec_word.proofs.Place.{SymbolList, at-lt}
+use Rattle.spec_word.specs.Word.{IsWord}
+use Rattle.spec_word.proofs.Place.{SymbolList}
 use Rattle.spec_book.specs.Layout.{fieldOf, bookOf}
 use Rattle.spec_book.specs.Conditions.{refusal}
-use Rattle.spec_book.proofs.Known.{n-pos}
 use Rattle.spec_decoding.specs.Decode.{Result}
 use Rattle.spec_decoding.specs.Symmetry.{Moved}
 use Rattle.spec_decoding.proofs.Demand3.{moved-word, demand-3}
 use Rattle.spec_operations.specs.Decoding.{matrixSize, decodeInputRefusal, decodeRefusal, decodeBytes, values, Decodes}
-use Rattle.spec_operations.proofs.Decoding.{decode-taken}
+use Rattle.spec_operations.proofs.Decoding.{decode-taken, symbol-list, is-word}
 use Rattle.spec_operations.specs.Twice.{Given, Shows, Related}
 
 -- ---- a call that is not refused
 
 module _ (bytes : List ℕ) (e : refusal bytes ≡ 0) where
-  pub symbol-list : {w : List ℕ} → IsWord (fieldOf bytes) (bookOf bytes .n) w → SymbolList (fieldOf bytes) (bookOf bytes .n) w
-  unfolding at
-  symbol-list h = record { exact = h .size; symbols = λ j. h .symbol (j % bookOf bytes .n) (mod-lt j (n-pos bytes e)) }
-
-  pub is-word : {w : List ℕ} → SymbolList (fieldOf bytes) (bookOf bytes .n) w → IsWord (fieldOf bytes) (bookOf bytes .n) w
-  is-word {w} h =
-      record { size = h .exact; symbol = λ j l. subst (λ (s : ℕ). s < fieldOf bytes .q) (at-lt (bookOf bytes .n) w l) (h .symbols j) }
-
   not-refused : (r : List ℕ) (room entries : ℕ) → IsWord (fieldOf bytes) (bookOf bytes .n) r → room ≡ bookOf bytes .n → entries ≡ matrixSize bytes
       → decodeRefusal bytes r room entries ≡ 0
   unfolding decodeRefusal

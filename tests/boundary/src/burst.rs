@@ -8,7 +8,8 @@ use reference::codebook::Codebook;
 use reference::packed::{self, Record};
 
 use crate::compare::hex;
-use crate::{changed, decode, kind, refusal, rounds, shiftsum_burst, Lent, Touched};
+use crate::guard::{Lent, Touched};
+use crate::{changed, decode, kind, refusal, rounds, shiftsum_burst};
 
 /// The form of the library's function.
 type Call = unsafe extern "C" fn(
@@ -236,7 +237,7 @@ mod tests {
         }
         for (which, size, _) in &buffers[2..] {
             for place in 0..*size {
-                assert_eq!(writing(*which, place, 14), Err(Touched::Refused));
+                assert_eq!(writing(*which, place, 14), Err(Touched::Kept));
                 tried += 1;
             }
         }

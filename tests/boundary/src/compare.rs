@@ -2,6 +2,8 @@
 
 use std::fmt;
 
+use reference::codebook::Codebook;
+
 use crate::{guarded, Given, Operation};
 
 /// A call, with all that is needed to make it again.
@@ -21,6 +23,14 @@ impl Trial<'_> {
     pub fn compare(&self) -> Given {
         let mut output = self.held.to_vec();
         let result = self.operation.reference(self.book, self.input, &mut output);
+        self.against(result, &output)
+    }
+
+    /// The same for an accepted codebook that is open, since it takes long to
+    /// check it for every call.
+    pub fn compare_open(&self, book: &Codebook) -> Given {
+        let mut output = self.held.to_vec();
+        let result = self.operation.opened(book, self.input, &mut output);
         self.against(result, &output)
     }
 

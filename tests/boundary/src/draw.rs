@@ -1,8 +1,10 @@
 //! What the tests draw: codebooks with the L, I and D wanted, and buffers.
 
+pub mod bursts;
+
 use reference::books;
 use reference::codebook::{check, Codebook};
-use reference::generate::{self, Random};
+use reference::generate::{self, Random, SHAPES};
 use reference::packed::Record;
 
 /// The seed of a trial: a number for the test, s, p, and the trial's number.
@@ -26,6 +28,11 @@ pub fn size(exact: usize, random: &mut Random) -> usize {
     let any = random.between(0, 2 * exact + 8);
     let near = [exact.saturating_sub(1), exact + 1, 2 * exact];
     *random.pick(&[0, near[0], near[1], near[2], 63, 255, any])
+}
+
+/// The names of all s and p.
+pub fn shapes() -> [String; 17] {
+    SHAPES.map(|(s, p)| format!("{s} {p}"))
 }
 
 /// A codebook's bytes and its parts.
@@ -163,4 +170,31 @@ impl Shelf {
         let within = |book: &&Book| 4 * book.parts.weight() <= quarters * book.parts.n();
         books.filter(within).max_by_key(column)
     }
+}
+
+/// Codebooks of the s and p whose decodes take little time.
+pub fn quick_books(
+    test: u8,
+    s: u8,
+    p: u8,
+    count: u32,
+) -> impl Iterator<Item = (u64, Random, Book)> {
+    let mut random = Random::new(seed(test, s, p, u32::MAX));
+    let shelf = Shelf::new(s, p, 30, &mut random);
+    (0..count).map(move |trial| {
+        let seed = seed(test, s, p, trial);
+        let mut random = Random::new(seed);
+        let book = shelf.take(1 + random.below(4), 200_000, &mut random);
+        (seed, random, book)
+    })
+}
+
+/// The codebook damaged in each way, by 1 to 8.
+pub fn damaged(book: &Book, random: &mut Random) -> Vec<Vec<u8>> {
+    let damaged = |fault| {
+        let mut bytes = book.bytes.clone();
+        generate::damage(&mut bytes, fault, random);
+        bytes
+    };
+    (1..=8).map(damaged).collect()
 }

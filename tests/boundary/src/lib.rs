@@ -3,12 +3,19 @@
 
 pub mod burst;
 pub mod compare;
+pub mod counts;
 pub mod draw;
+pub mod game;
+mod guard;
+pub mod room;
 pub mod tally;
 pub mod way;
 
 use reference::codebook::Codebook;
 use reference::packed::{self, Record};
+
+use guard::Lent;
+pub use guard::Touched;
 
 extern "C" {
     fn shiftsum_check(book: *const u8, book_len: usize) -> u32;
@@ -55,22 +62,23 @@ extern "C" {
         records: *mut Record,
         records_len: usize,
     ) -> u32;
+    fn shiftsum_game(
+        book: *const u8,
+        book_len: usize,
+        words: u32,
+        received: *const u8,
+        received_len: usize,
+        messages: *mut u8,
+        messages_len: usize,
+    ) -> u32;
 }
 
-/// The form that the functions which write one output share: codebook, input
-/// and output, each as a pointer and a length.
-type Call = unsafe extern "C" fn(*const u8, usize, *const u8, usize, *mut u8, usize) -> u32;
-
-/// Check has neither input nor output; in this form it leaves them alone.
-unsafe extern "C" fn check_alone(
-    book: *const u8,
-    book_len: usize,
-    _: *const u8,
-    _: usize,
-    _: *mut u8,
-    _: usize,
-) -> u32 {
-    shiftsum_check(book, book_len)
+/// Codebook, input and output as the functions take them which write one
+/// output: each as a pointer and a length.
+struct Slices {
+    book: (*const u8, usize),
+    input: (*const u8, usize),
+    output: (*mut u8, usize),
 }
 
 /// The functions of the library but burst, which `burst` is for.
@@ -81,32 +89,42 @@ pub enum Operation {
     Read,
     Remainder,
     Decode,
+    /// Of M words.
+    Game(u32),
 }
 
 impl Operation {
-    fn library(self) -> Call {
-        match self {
-            Operation::Check => check_alone,
+    /// The library's function. Check leaves input and output alone.
+    unsafe fn library(self, slices: Slices) -> u32 {
+        let Slices {
+            book: (book, book_len),
+            input: (input, input_len),
+            output: (output, output_len),
+        } = slices;
+        let call = match self {
+            Operation::Check => return shiftsum_check(book, book_len),
+            Operation::Game(m) => {
+                return shiftsum_game(book, book_len, m, input, input_len, output, output_len)
+            }
             Operation::Code => shiftsum_code,
             Operation::Read => shiftsum_read,
             Operation::Remainder => shiftsum_remainder,
             Operation::Decode => shiftsum_decode,
-        }
+        };
+        call(book, book_len, input, input_len, output, output_len)
     }
 
     /// The library's function. A slice's pointer is never null, an empty
     /// one's neither, and its length is what may be read or written.
     pub fn call(self, book: &[u8], input: &[u8], output: &mut [u8]) -> u32 {
-        let (book_at, book_len) = (book.as_ptr(), book.len());
-        let (input_at, input_len) = (input.as_ptr(), input.len());
-        let (output_at, output_len) = (output.as_mut_ptr(), output.len());
+        let slices = Slices {
+            book: (book.as_ptr(), book.len()),
+            input: (input.as_ptr(), input.len()),
+            output: (output.as_mut_ptr(), output.len()),
+        };
         // SAFETY: three slices, of which the borrow lets none that is
         // written overlap another, are all that the header asks for.
-        unsafe {
-            self.library()(
-                book_at, book_len, input_at, input_len, output_at, output_len,
-            )
-        }
+        unsafe { self.library(slices) }
     }
 
     /// The second implementation's function.
@@ -117,11 +135,11 @@ impl Operation {
             Operation::Read => packed::read(book, input, output),
             Operation::Remainder => packed::remainder(book, input, output),
             Operation::Decode => packed::decode(book, input, output),
+            Operation::Game(words) => packed::game(book, words, input, output),
         }
     }
 
-    /// The same for an accepted codebook that is open, since it takes long to
-    /// check it for every call.
+    /// The same for an accepted codebook that is open.
     pub fn opened(self, book: &Codebook, input: &[u8], output: &mut [u8]) -> u32 {
         match self {
             Operation::Check => packed::pack_check(&Ok(book.clone())),
@@ -132,6 +150,7 @@ impl Operation {
                 let mut entries = vec![0; book.entries()];
                 packed::pack_decode(book.decode(input, output, &mut entries))
             }
+            Operation::Game(words) => packed::pack_game(book.game(words, input, output)),
         }
     }
 
@@ -142,17 +161,19 @@ impl Operation {
             Operation::Read => book.k(),
             Operation::Remainder => book.n() - book.k(),
             Operation::Code | Operation::Decode => book.n(),
+            Operation::Game(words) => book.k() * words as usize,
         }
     }
 }
 
-/// All of them.
-pub const OPERATIONS: [Operation; 5] = [
+/// All of them; the game is of one word, and so takes what decode takes.
+pub const OPERATIONS: [Operation; 6] = [
     Operation::Check,
     Operation::Code,
     Operation::Read,
     Operation::Remainder,
     Operation::Decode,
+    Operation::Game(1),
 ];
 
 /// Whether a codebook is accepted.
@@ -190,51 +211,9 @@ pub fn rounds(result: u32) -> u8 {
     result.to_le_bytes()[2]
 }
 
-/// The letter of decode's kind of answer.
+/// The letter of decode's kind of answer, or of a game's.
 pub fn kind(result: u32) -> char {
     char::from(result.to_le_bytes()[3])
-}
-
-/// What lies on either side of a buffer. No symbol is as large, so that a
-/// symbol written there shows.
-const GUARD: [u8; 64] = [0xa5; 64];
-
-/// A buffer between guards, and what was laid there before the call.
-struct Laid {
-    before: Vec<u8>,
-    bytes: Vec<u8>,
-}
-
-impl Laid {
-    fn new(held: &[u8]) -> Laid {
-        let before = [&GUARD, held, &GUARD].concat();
-        let bytes = before.clone();
-        Laid { before, bytes }
-    }
-
-    /// Where the buffer starts. The pointer is good for the guards as well,
-    /// so that a call which writes there is caught and nothing worse.
-    fn pointer(&mut self) -> *mut u8 {
-        self.bytes.as_mut_ptr().wrapping_add(GUARD.len())
-    }
-
-    fn len(&self) -> usize {
-        self.bytes.len() - 2 * GUARD.len()
-    }
-
-    /// As a call takes it.
-    fn lent(&mut self) -> (*mut u8, usize) {
-        (self.pointer(), self.len())
-    }
-
-    fn untouched(&self) -> bool {
-        self.bytes == self.before
-    }
-
-    /// What the buffer holds, or none where a guard was touched.
-    fn held(&self) -> Option<&[u8]> {
-        self.bytes.strip_prefix(&GUARD)?.strip_suffix(&GUARD)
-    }
 }
 
 /// What a call returned, and what its output held after it.
@@ -242,56 +221,6 @@ impl Laid {
 pub struct Given {
     pub result: u32,
     pub output: Vec<u8>,
-}
-
-/// What a call wrote to although it must not.
-#[derive(Clone, Copy, Debug, PartialEq, Eq)]
-pub enum Touched {
-    /// The codebook, or what lies beside it.
-    Book,
-    /// The input, or what lies beside it.
-    Input,
-    /// What lies beside an output.
-    Guard,
-    /// An output of a refused call.
-    Refused,
-}
-
-/// The buffers of a call, each between guards.
-struct Lent<const OUTPUTS: usize> {
-    book: Laid,
-    input: Laid,
-    outputs: [Laid; OUTPUTS],
-}
-
-impl<const OUTPUTS: usize> Lent<OUTPUTS> {
-    /// Outputs that hold what is given.
-    fn new(book: &[u8], input: &[u8], held: [&[u8]; OUTPUTS]) -> Lent<OUTPUTS> {
-        Lent {
-            book: Laid::new(book),
-            input: Laid::new(input),
-            outputs: held.map(Laid::new),
-        }
-    }
-
-    /// What the outputs hold after the call that returned the result, unless
-    /// it wrote where it must not.
-    fn after(&self, result: u32) -> Result<[Vec<u8>; OUTPUTS], Touched> {
-        if !self.book.untouched() {
-            return Err(Touched::Book);
-        }
-        if !self.input.untouched() {
-            return Err(Touched::Input);
-        }
-        let after = self.outputs.each_ref().map(Laid::held);
-        if after.iter().any(Option::is_none) {
-            return Err(Touched::Guard);
-        }
-        if refusal(result) != 0 && !self.outputs.iter().all(Laid::untouched) {
-            return Err(Touched::Refused);
-        }
-        Ok(after.map(|held| held.unwrap_or_default().to_vec()))
-    }
 }
 
 /// Lays codebook, input and output between guards, the output holding what
@@ -304,25 +233,25 @@ pub fn guarded(
 ) -> Result<Given, Touched> {
     // SAFETY: the library's functions keep the header's promises, and what
     // they would still write beside a buffer are guards.
-    unsafe { guarded_call(operation.library(), book, input, held) }
+    unsafe { guarded_call(|slices| operation.library(slices), book, input, held) }
 }
 
 /// # Safety
 ///
 /// The call writes to no memory but the three buffers and their guards.
 unsafe fn guarded_call(
-    call: Call,
+    call: impl FnOnce(Slices) -> u32,
     book: &[u8],
     input: &[u8],
     held: &[u8],
 ) -> Result<Given, Touched> {
     let mut lent = Lent::new(book, input, [held]);
-    let (book_at, book_len) = lent.book.lent();
-    let (input_at, input_len) = lent.input.lent();
-    let (output_at, output_len) = lent.outputs[0].lent();
-    let result = call(
-        book_at, book_len, input_at, input_len, output_at, output_len,
-    );
+    let ((book, book_len), (input, input_len)) = (lent.book.lent(), lent.input.lent());
+    let result = call(Slices {
+        book: (book, book_len),
+        input: (input, input_len),
+        output: lent.outputs[0].lent(),
+    });
     let [output] = lent.after(result)?;
     Ok(Given { result, output })
 }
@@ -331,38 +260,29 @@ unsafe fn guarded_call(
 mod tests {
     use super::*;
 
-    /// Writes a zero so many places from the start of one of the buffers,
-    /// which one and where being what the codebook says, and returns what
-    /// it says as well.
-    unsafe extern "C" fn write_a_zero(
-        book: *const u8,
-        _: usize,
-        input: *const u8,
-        _: usize,
-        output: *mut u8,
-        _: usize,
-    ) -> u32 {
-        let [which, place, result] = [*book, *book.add(1), *book.add(2)];
-        let buffer = match which {
-            0 => book.cast_mut(),
-            1 => input.cast_mut(),
-            _ => output,
+    /// A zero written so many places from the start of codebook, input or
+    /// output, by a call with the result.
+    fn writing(which: usize, place: i8, result: u32) -> Result<Given, Touched> {
+        let call = |slices: Slices| {
+            let (book, input) = (slices.book.0.cast_mut(), slices.input.0.cast_mut());
+            let buffer = [book, input, slices.output.0][which];
+            // SAFETY: every place tried is in the buffer or in its guards.
+            unsafe { buffer.offset(place.into()).write(0) };
+            result
         };
-        buffer.offset(isize::from(place.cast_signed())).write(0);
-        result.into()
+        // SAFETY: as above.
+        unsafe { guarded_call(call, &[6, 7, 8, 9], &[1, 2], &[3, 4, 5]) }
     }
 
-    /// A zero written at the place of the buffer, by a call with the result.
-    fn writing(which: u8, place: i8, result: u8) -> Result<Given, Touched> {
-        let book = [which, place.cast_unsigned(), result, 9];
-        // SAFETY: every place tried is in the buffer or in its guards.
-        unsafe { guarded_call(write_a_zero, &book, &[1, 2], &[3, 4, 5]) }
-    }
+    /// Results of a game: refused, held and whole.
+    const REFUSED: u32 = 11;
+    const HELD: u32 = 0x4800_0100;
+    const WHOLE: u32 = 0x5700_0000;
 
     #[test]
     fn what_a_call_must_not_write_is_found() {
         let mut tried = 0;
-        for result in [0, 11] {
+        for result in [0, REFUSED, HELD, WHOLE] {
             for place in [-64, -1, 3, 4, 66] {
                 assert_eq!(writing(0, place, result), Err(Touched::Book));
                 tried += 1;
@@ -377,8 +297,9 @@ mod tests {
             }
         }
         for place in 0..3 {
-            assert_eq!(writing(2, place, 11), Err(Touched::Refused));
-            tried += 1;
+            assert_eq!(writing(2, place, REFUSED), Err(Touched::Kept));
+            assert_eq!(writing(2, place, HELD), Err(Touched::Kept));
+            tried += 2;
         }
         println!("guards: {tried} forbidden writes found");
     }
@@ -388,7 +309,10 @@ mod tests {
         for place in 0..3 {
             let mut output = vec![3, 4, 5];
             output[usize::try_from(place).expect("not below 0")] = 0;
-            assert_eq!(writing(2, place, 0), Ok(Given { result: 0, output }));
+            for result in [0, WHOLE] {
+                let output = output.clone();
+                assert_eq!(writing(2, place, result), Ok(Given { result, output }));
+            }
         }
     }
 

@@ -4,15 +4,13 @@
 use std::ops::RangeInclusive;
 
 use boundary::burst::{Burst, Outcome};
-use boundary::draw::{self, Book, Shelf};
+use boundary::draw::bursts::{every_small, on_books, word, KINDS, SMALL};
+use boundary::draw::{self, Book};
 use boundary::tally::Tally;
 use reference::books::{self, symbols};
 use reference::burst::{mix, MOST_WORDS};
-use reference::generate::{self, Random, SHAPES};
+use reference::generate::{Random, SHAPES};
 use reference::packed::Record;
-
-/// The letters of the kinds.
-const KINDS: [char; 4] = ['C', 'M', 'S', 'X'];
 
 /// A burst against what is known of its words, each written as the program
 /// writes it: kind, rounds, changed, answer.
@@ -115,37 +113,7 @@ fn compared(
     products
 }
 
-/// A word of any sort, a code word often.
-fn drawn(book: &Book, random: &mut Random) -> Vec<u8> {
-    match random.below(4) {
-        0 => generate::code_word(&book.parts, random),
-        _ => draw::received(book, random),
-    }
-}
-
-/// Bursts of codebooks with every L, I and D, and of light ones as often,
-/// until so many are made or they took so many products of symbols.
-fn drawn_bursts(test: u8, s: u8, p: u8, most: u32, products: usize, tally: &mut Tally) {
-    let mut random = Random::new(draw::seed(test, s, p, u32::MAX));
-    let shelf = Shelf::new(s, p, 60, &mut random);
-    let mut spent = 0;
-    for trial in 0..most {
-        if spent > products {
-            break;
-        }
-        let seed = draw::seed(test, s, p, trial);
-        let mut random = Random::new(seed);
-        let book = match trial % 2 {
-            0 => shelf.take(random.between(1, 32), 100_000, &mut random),
-            _ => shelf.light(&mut random),
-        };
-        let count = random.between(1, MOST_WORDS as usize);
-        let words: Vec<Vec<u8>> = (0..count).map(|_| drawn(&book, &mut random)).collect();
-        spent += compared(seed, &book, &words, &mut random, tally);
-    }
-}
-
-/// Such bursts of every s and p given, with every M, and with every kind at
+/// Drawn bursts of every s and p given, with every M, and with every kind at
 /// each place.
 fn bursts(title: &'static str, test: u8, sizes: RangeInclusive<u8>, most: u32, products: usize) {
     let shapes = SHAPES.iter().filter(|(s, _)| sizes.contains(s));
@@ -156,8 +124,12 @@ fn bursts(title: &'static str, test: u8, sizes: RangeInclusive<u8>, most: u32, p
         .due("first", KINDS)
         .due("last", KINDS)
         .due("kind at each place", places);
-    for &(s, p) in shapes {
-        drawn_bursts(test, s, p, most, products, &mut tally);
+    for &shape in shapes {
+        on_books(test, shape, most, products, |seed, book, random| {
+            let count = random.between(1, MOST_WORDS as usize);
+            let words: Vec<Vec<u8>> = (0..count).map(|_| word(book, random)).collect();
+            compared(seed, book, &words, random, &mut tally)
+        });
     }
     tally.finish(5);
 }
@@ -180,28 +152,13 @@ fn bursts_of_s_7_and_8() {
 #[test]
 fn every_burst_of_small_codebooks() {
     let mut tally = Tally::new("burst, every burst of small codebooks")
-        .due("s and p", ["2 1", "2 2", "3 1"])
+        .due("s and p", SMALL)
         .due("M", 1..=4)
         .due("first", KINDS)
         .due("last", KINDS);
-    for (s, p, most, count) in [(2, 1, 4, 2), (2, 2, 2, 4), (3, 1, 2, 2)] {
-        for trial in 0..count {
-            let seed = draw::seed(7, s, p, trial);
-            let mut random = Random::new(seed);
-            let any = Book::any(s, p, &mut random);
-            let (n, q) = (any.parts.n(), usize::from(any.parts.q()));
-            let (i, d) = (*random.pick(&[1, 2, 3]), random.between(1, n) as u8);
-            let book = any.with(any.parts.l(), i, d);
-            for m in 1..=most {
-                for number in 0..q.pow((n * m) as u32) {
-                    let symbol = |at: usize| (number / q.pow(at as u32) % q) as u8;
-                    let word = |m: usize| (0..n).map(|j| symbol(n * m + j)).collect();
-                    let words: Vec<Vec<u8>> = (0..m).map(word).collect();
-                    compared(seed, &book, &words, &mut random, &mut tally);
-                }
-            }
-        }
-    }
+    every_small(7, |seed, book, words, random| {
+        compared(seed, book, words, random, &mut tally);
+    });
     tally.finish(1);
 }
 
@@ -215,7 +172,7 @@ fn sixteen_words_of_every_stored_codebook() {
         let seed = draw::seed(8, 8, 0, at);
         let mut random = Random::new(seed);
         let book = Book::new(bytes.to_vec());
-        let words: Vec<Vec<u8>> = (0..MOST_WORDS).map(|_| drawn(&book, &mut random)).collect();
+        let words: Vec<Vec<u8>> = (0..MOST_WORDS).map(|_| word(&book, &mut random)).collect();
         let burst = Burst {
             seed,
             book: bytes,

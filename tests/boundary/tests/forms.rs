@@ -36,7 +36,7 @@ fn number(book: &[u8], random: &mut Random) -> u8 {
     };
     let numbers = [&numbers[..], &[refusal(burst.compare().result)]].concat();
     let refused = |number: &u8| (1..=8).contains(number);
-    assert!(!numbers.iter().any(refused) || numbers == [numbers[0]; 6]);
+    assert!(!numbers.iter().any(refused) || numbers == [numbers[0]; 7]);
     numbers[0]
 }
 

@@ -46,15 +46,11 @@ impl Trials<'_> {
         }
     }
 
-    /// Codes on both sides, which must return the number; the output. The
-    /// second implementation has the codebook open, since it takes long to
-    /// check it for every length.
+    /// Codes on both sides, which must return the number; the output.
     fn code(&mut self, message: &[u8], size: usize, number: u8) -> Vec<u8> {
         let held = draw::bytes(size, &mut self.random);
         let trial = self.trial(Operation::Code, message, &held);
-        let mut output = held.clone();
-        let result = Operation::Code.opened(&self.book.parts, message, &mut output);
-        let given = trial.against(result, &output);
+        let given = trial.compare_open(&self.book.parts);
         assert!(refusal(given.result) == number, "{trial}");
         let k = self.book.parts.k();
         let sort = length(k, message);

@@ -18,6 +18,7 @@ fn results(operation: Operation) -> Vec<String> {
         Operation::Code | Operation::Remainder => (11, vec!["0"]),
         Operation::Read => (12, vec!["0"]),
         Operation::Decode => (11, vec!["C", "M", "S", "X"]),
+        Operation::Game(_) => (11, vec!["W", "H"]),
     };
     let refused = (1..=last).map(|number| number.to_string());
     accepted
@@ -29,9 +30,9 @@ fn results(operation: Operation) -> Vec<String> {
 
 /// The name of what a call came to.
 fn named(operation: Operation, result: u32) -> String {
-    match refusal(result) {
-        0 if operation == Operation::Decode => kind(result).to_string(),
-        number => number.to_string(),
+    match (refusal(result), operation) {
+        (0, Operation::Decode | Operation::Game(_)) => kind(result).to_string(),
+        (number, _) => number.to_string(),
     }
 }
 
@@ -43,7 +44,7 @@ fn input(operation: Operation, book: &Book, random: &mut Random) -> Vec<u8> {
         (Operation::Check, _) => Vec::new(),
         (Operation::Code, _) => generate::any_message(parts, random),
         (Operation::Read, 0..=3) => generate::code_word(parts, random),
-        (Operation::Decode, 0..=1) => {
+        (Operation::Decode | Operation::Game(_), 0..=1) => {
             let errors = random.between(1, 12);
             generate::damaged_code_word(parts, errors, random)
         }
@@ -70,8 +71,6 @@ fn accepted(seed: u64, operation: Operation, book: &Book, random: &mut Random) -
         size = draw::size(size, random);
     }
     let (input, held) = (input(operation, book, random), draw::bytes(size, random));
-    let mut output = held.clone();
-    let result = operation.opened(&book.parts, &input, &mut output);
     let trial = Trial {
         seed,
         operation,
@@ -79,7 +78,7 @@ fn accepted(seed: u64, operation: Operation, book: &Book, random: &mut Random) -
         input: &input,
         held: &held,
     };
-    trial.against(result, &output).result
+    trial.compare_open(&book.parts).result
 }
 
 /// One call with a codebook that the number refuses.
@@ -117,8 +116,8 @@ fn thousands_of_calls_at_each_s_and_p() {
             let seed = draw::seed(1, s, p, trial);
             let mut random = Random::new(seed);
             let book = book(&stored, &mut random);
-            let operation = OPERATIONS[trial as usize % 5];
-            let result = match trial / 5 % 24 {
+            let operation = OPERATIONS[trial as usize % OPERATIONS.len()];
+            let result = match trial as usize / OPERATIONS.len() % 24 {
                 fault @ 1..=8 => refused(seed, operation, &book, fault as u8, &mut random),
                 _ => accepted(seed, operation, &book, &mut random),
             };

@@ -41,9 +41,14 @@ pub fn a() -> Vec<u8> {
     a_with(1)
 }
 
-/// "Book B: s 2, p 2, g 111, I 3, D 1, dual word 110."
+/// "Book B: s 2, p 2, g 111, I 3, D 1, dual word 110", with another D.
+pub fn b_with(d: u8) -> Vec<u8> {
+    write(2, 2, &symbols("111"), 3, d, &[symbols("110")])
+}
+
+/// Book B.
 pub fn b() -> Vec<u8> {
-    write(2, 2, &symbols("111"), 3, 1, &[symbols("110")])
+    b_with(1)
 }
 
 /// "Book C: s 2, p 2, g 21, I 3, D 2, dual word 132", with another D.

@@ -22,7 +22,7 @@ pub fn burst(
 impl Codebook {
     /// "One call decodes all M and writes the answer words one after another,
     /// plus one record per word in a lent list", and "the matrix left is the
-    /// last word's". Refusal 14 stands "after 8 and before 9".
+    /// last word's".
     pub fn burst(
         &self,
         words: u32,
@@ -31,11 +31,8 @@ impl Codebook {
         records: &mut [Decoded],
         entries: &mut [u16],
     ) -> Result<(), u8> {
-        refuse(14, words == 0 || words > MOST_WORDS)?;
-        let words = words as usize;
-        let size = self.n() * words;
-        refuse(9, received.len() != size)?;
-        let exact = answers.len() == size && records.len() == words;
+        let words = self.count_of_words(words, received)?;
+        let exact = answers.len() == received.len() && records.len() == words;
         refuse(10, !exact || entries.len() != self.entries())?;
         self.field().admit(received)?;
         // "Those of decoding it singly": nothing is left to be refused.
@@ -43,6 +40,15 @@ impl Codebook {
             records[m] = self.decode(&unmixed(received, words, m), answer, entries)?;
         }
         Ok(())
+    }
+
+    /// M, where it is none of those that 14 refuses, "placed after 8 and
+    /// before 9", and "input size is n x M".
+    pub(crate) fn count_of_words(&self, words: u32, received: &[u8]) -> Result<usize, u8> {
+        refuse(14, words == 0 || words > MOST_WORDS)?;
+        let words = words as usize;
+        refuse(9, received.len() != self.n() * words)?;
+        Ok(words)
     }
 }
 

@@ -22,6 +22,12 @@ impl Kind {
             Kind::Spent => 'X',
         }
     }
+
+    /// Whether the answer is a code word: "the code word reached; for Stalled
+    /// and Spent the word as received".
+    pub fn reached(self) -> bool {
+        matches!(self, Kind::Clean | Kind::Mended)
+    }
 }
 
 /// What decode returns beside what it writes.
@@ -32,6 +38,15 @@ pub struct Decoded {
     pub rounds: u8,
     /// "The count of places where answer and received word differ."
     pub changed: u8,
+}
+
+impl Decoded {
+    /// A record that no decoding gives: of a list that is not yet written.
+    pub const UNWRITTEN: Decoded = Decoded {
+        kind: Kind::Spent,
+        rounds: 0,
+        changed: 0,
+    };
 }
 
 /// Decode: the refusals of the book, then those of the call.

@@ -5,11 +5,13 @@
 
 pub mod books;
 pub mod burst;
+pub mod by_hand;
 pub mod codebook;
 pub mod coder;
 pub mod decode;
 pub mod field;
 pub mod form;
+pub mod game;
 pub mod generate;
 pub mod matrix;
 pub mod packed;

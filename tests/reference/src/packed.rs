@@ -3,11 +3,13 @@
 //! The lowest byte is the refusal number or 0. A refused call has the other
 //! three bytes 0. Check has L in byte 1; decode has changed in byte 1,
 //! rounds in byte 2 and the letter of the kind in byte 3. A burst has the
-//! same three in a record for each word.
+//! same three in a record for each word; a game has the count held in byte 1
+//! and the letter of its answer in byte 3.
 
 use crate::codebook::{self, Codebook};
 use crate::coder;
-use crate::decode::{Decoded, Kind};
+use crate::decode::Decoded;
+use crate::game::{self, Game};
 
 /// Check, its result packed.
 pub fn check(book: &[u8]) -> u32 {
@@ -64,12 +66,7 @@ pub fn open_burst(
     answers: &mut [u8],
     records: &mut [Record],
 ) -> u32 {
-    let unwritten = Decoded {
-        kind: Kind::Clean,
-        rounds: 0,
-        changed: 0,
-    };
-    let mut list = vec![unwritten; records.len()];
+    let mut list = vec![Decoded::UNWRITTEN; records.len()];
     let mut entries = vec![0; book.entries()];
     let result = book.burst(words, received, answers, &mut list, &mut entries);
     if result.is_ok() {
@@ -78,6 +75,11 @@ pub fn open_burst(
         }
     }
     pack_done(result)
+}
+
+/// Game, its result packed.
+pub fn game(book: &[u8], words: u32, received: &[u8], messages: &mut [u8]) -> u32 {
+    pack_game(game::game(book, words, received, messages))
 }
 
 fn pack_record(decoded: &Decoded) -> Record {
@@ -107,6 +109,14 @@ pub fn pack_decode(result: Result<Decoded, u8>) -> u32 {
             let [letter, rounds, changed] = pack_record(&decoded);
             u32::from_le_bytes([0, changed, rounds, letter])
         }
+        Err(number) => u32::from(number),
+    }
+}
+
+/// The number for what game returns.
+pub fn pack_game(result: Result<Game, u8>) -> u32 {
+    match result {
+        Ok(game) => u32::from_le_bytes([0, game.held(), 0, game.letter() as u8]),
         Err(number) => u32::from(number),
     }
 }

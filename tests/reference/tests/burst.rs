@@ -6,13 +6,6 @@ use reference::burst::{burst, mix, unmixed};
 use reference::decode::{Decoded, Kind};
 use reference::generate::{damage, damage_all, Random};
 
-/// A record that no decoding gives.
-const HELD: Decoded = Decoded {
-    kind: Kind::Spent,
-    rounds: 0xa5,
-    changed: 0xa5,
-};
-
 /// What answers, list and matrix hold.
 type Outputs = (Vec<u8>, Vec<Decoded>, Vec<u16>);
 
@@ -21,7 +14,7 @@ fn before(sizes: [usize; 3]) -> Outputs {
     let [answers, records, entries] = sizes;
     (
         vec![0xa5; answers],
-        vec![HELD; records],
+        vec![Decoded::UNWRITTEN; records],
         vec![0xa5a5; entries],
     )
 }

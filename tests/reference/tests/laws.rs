@@ -3,9 +3,10 @@
 
 use std::collections::BTreeMap;
 
-use reference::burst::MOST_WORDS;
+use reference::burst::{mix, MOST_WORDS};
 use reference::codebook::{check, Codebook};
 use reference::decode::{Decoded, Kind};
+use reference::game::Game;
 use reference::generate::{self, Random, SHAPES};
 use reference::word;
 
@@ -273,4 +274,53 @@ fn a_burst_is_its_words_decoded_singly() {
     assert!(made > 200, "{made}");
     assert_eq!(last.len(), 4);
     assert!(last.values().all(|&count| count > 10), "{last:?}");
+}
+
+/// A word of any kind, or one that ends in a code word.
+fn drawn(book: &Codebook, reached: bool, random: &mut Random) -> Vec<u8> {
+    loop {
+        let word = generate::good_word(book, random);
+        if !reached || decode(book, &word, 0x11).0.kind.reached() {
+            return word;
+        }
+    }
+}
+
+/// The message of the word's answer, none where it is no code word.
+fn taken(book: &Codebook, word: &[u8]) -> Option<Vec<u8>> {
+    let mut message = vec![0x11; book.k()];
+    let (_, answer, _) = decode(book, word, 0x11);
+    let result = book.read(&answer, &mut message);
+    assert!(result == Ok(()) || result == Err(12));
+    result.is_ok().then_some(message)
+}
+
+#[test]
+fn a_game_is_its_words_decoded_and_read() {
+    let (mut whole, mut one, mut several) = (0, 0, 0);
+    on_books(6, 200_000, |book, random| {
+        for trial in 0..3 * trials(book, 4) {
+            // Words that are reached, all but one of them, and any.
+            let count = random.between(1, MOST_WORDS as usize);
+            let any = random.below(count);
+            let reached = |m: usize| trial % 3 == 0 || trial % 3 == 1 && m != any;
+            let words = (0..count).map(|m| drawn(book, reached(m), random));
+            let words: Vec<Vec<u8>> = words.collect();
+            let taken: Vec<_> = words.iter().map(|word| taken(book, word)).collect();
+            let mut messages = vec![0xfe; book.k() * count];
+            let due = match taken.iter().filter(|message| message.is_none()).count() {
+                0 => (Game::Whole, taken.into_iter().flatten().flatten().collect()),
+                held => (Game::Held(held as u8), messages.clone()),
+            };
+            let result = book.game(count as u32, &mix(&words), &mut messages);
+            assert_eq!((result, messages), (Ok(due.0), due.1));
+            match due.0.held() {
+                0 => whole += 1,
+                1 => one += 1,
+                _ => several += 1,
+            }
+        }
+    });
+    println!("games: {whole} whole, {one} with one word held, {several} with several");
+    assert!(whole > 200 && one > 50 && several > 50);
 }

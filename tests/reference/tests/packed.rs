@@ -96,3 +96,23 @@ fn a_burst_has_its_numbers_in_records() {
     let result = packed::burst(&[], 2, &[], &mut [], &mut []);
     assert_eq!(result, 1);
 }
+
+#[test]
+fn a_game_has_the_count_held_and_a_letter() {
+    let mut messages = [255; 2];
+    let mut game = |book: &[u8], words: u32, mixed: &str| {
+        let result = packed::game(book, words, &symbols(mixed), &mut messages);
+        (result, messages)
+    };
+    // Cases 10 and 11 of book B, and case 11 twice.
+    assert_eq!(game(&books::b(), 2, "31 12 10"), (0x4800_0100, [255; 2]));
+    assert_eq!(game(&books::b(), 2, "11 22 00"), (0x4800_0200, [255; 2]));
+    for (words, mixed, number) in [(17, "31 12 10", 14), (2, "31", 9), (2, "31 12 14", 11)] {
+        assert_eq!(game(&books::b(), words, mixed), (number, [255; 2]));
+    }
+    assert_eq!(game(&books::b(), 1, "311"), (10, [255; 2]));
+    assert_eq!(game(&[], 2, "31 12 10"), (1, [255; 2]));
+    // Case 10 before and after 333.
+    assert_eq!(game(&books::b(), 2, "33 13 13"), (0x5700_0000, [1, 3]));
+    assert_eq!(game(&books::b(), 2, "33 31 31"), (0x5700_0000, [3, 1]));
+}

@@ -20,10 +20,16 @@ abbrev tallied : tie.After-blocks2 → tie.After-count-duals
 tallied b = b .before .before .before .before .before
 
 abbrev table-made : tie.After-count-duals → tie.After-tabulate
-table-made d = d .before .before .before .before .before .before
+table-made d = d .before .before .before .before .before
 
 abbrev begun : tie.After-tabulate → tie.Start
 begun t = t .before .before .before .before .before .before .before .before
+
+multiples-room-requires : tie.Need-multiples-room-requires
+multiples-room-requires c κs = search needs
+
+slice-aggregate-tabulate : tie.Need-slice-aggregate-tabulate
+slice-aggregate-tabulate c = search needs
 
 tabulate-requires : tie.Need-tabulate-requires
 tabulate-requires c κs =
@@ -32,12 +38,15 @@ tabulate-requires c κs =
       ok .terms-of .numbers .sizes,
       omega (arith, ok .room),
       λ j l. subst (λ (k : ℕ). place (start .args .r .now) k < 2 ^ start .args .p) (omega arith) (ok .word j l),
-      start .pre .1,
+      omega (arith, start .pre .1, c .before .multiples-room .ensures),
     )
+
+slice-aggregate-count-duals : tie.Need-slice-aggregate-count-duals
+slice-aggregate-count-duals c = search needs
 
 count-duals-requires : tie.Need-count-duals-requires
 count-duals-requires c κs =
-    let t = c .before .before .before .before .before in
+    let t = c .before .before .before .before in
     let pre = begun t .pre in
     record { words = pre .0 .words; terms-of = pre .0 .terms-of; multiples = t .tabulate .ensures .multiples; rooms = pre .2 }
 
@@ -78,9 +87,6 @@ same-length-2 c = search needs
 same-length-3 : tie.Need-same-length-3
 same-length-3 c = search needs
 
-same-length-4 : tie.Need-same-length-4
-same-length-4 c = search needs
-
 returns : tie.Need-returns
 returns c =
     let z = c .before .before in
@@ -97,7 +103,10 @@ pub fill-in-spec : {M : Type 1} → statement M
 fill-in-spec =
     tie.close
     (tie.spec
+    multiples-room-requires
+    slice-aggregate-tabulate
     tabulate-requires
+    slice-aggregate-count-duals
     count-duals-requires
     blocks-requires
     gather-requires
@@ -108,5 +117,4 @@ fill-in-spec =
     same-length
     same-length-2
     same-length-3
-    same-length-4
     returns)

@@ -10,9 +10,6 @@ use borrow.Author.Needs.{needs}
 use Rattle.matrix_marks.proofs.fill_long.Statement.{statement}
 use Rattle.matrix_marks.proofs.fill_long.Tie as tie
 
-long-table-room-requires : tie.Need-long-table-room-requires
-long-table-room-requires c κs = search needs
-
 long-mark-room-requires : tie.Need-long-mark-room-requires
 long-mark-room-requires c κs = search needs
 
@@ -25,18 +22,15 @@ slice-aggregate-fill-in c = search needs
 slice-aggregate-fill-in-2 : tie.Need-slice-aggregate-fill-in-2
 slice-aggregate-fill-in-2 c = search needs
 
-slice-aggregate-fill-in-3 : tie.Need-slice-aggregate-fill-in-3
-slice-aggregate-fill-in-3 c = search needs
-
 fill-in-requires : tie.Need-fill-in-requires
 fill-in-requires c κs =
-    let r = c .before .before .before .before in
-    let start = r .before .before .before .before .before .before in
+    let r = c .before .before .before in
+    let start = r .before .before .before .before .before in
     let n = start .args .n in
     let pre = start .pre in
     let few : 2 ^ start .args .p ≤ 2 ^ 2 = pow-mono (pre .1) in (
       pre .0,
-      omega (arith, table-fits _ 4 few n 4 (blocks-high n), r .before .before .long-table-room .ensures),
+      omega (arith, table-fits _ 4 few n 4 (blocks-high n)),
       rooms _ 4 few n 4 (blocks-high n) (le-of-eq (r .before .long-mark-room .ensures)) (r .long-counters .ensures),
     )
 
@@ -50,12 +44,10 @@ pub fill-long-spec : {M : Type 1} → statement M
 fill-long-spec =
     tie.close
     (tie.spec
-    long-table-room-requires
     long-mark-room-requires
     long-counters-requires
     slice-aggregate-fill-in
     slice-aggregate-fill-in-2
-    slice-aggregate-fill-in-3
     fill-in-requires
     same-length
     returns)

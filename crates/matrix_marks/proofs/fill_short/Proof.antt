@@ -10,9 +10,6 @@ use borrow.Author.Needs.{needs}
 use Rattle.matrix_marks.proofs.fill_short.Statement.{statement}
 use Rattle.matrix_marks.proofs.fill_short.Tie as tie
 
-few-table-room-requires : tie.Need-few-table-room-requires
-few-table-room-requires c κs = search needs
-
 mark-room-requires : tie.Need-mark-room-requires
 mark-room-requires c κs = search needs
 
@@ -25,19 +22,16 @@ slice-aggregate-fill-in c = search needs
 slice-aggregate-fill-in-2 : tie.Need-slice-aggregate-fill-in-2
 slice-aggregate-fill-in-2 c = search needs
 
-slice-aggregate-fill-in-3 : tie.Need-slice-aggregate-fill-in-3
-slice-aggregate-fill-in-3 c = search needs
-
 fill-in-requires : tie.Need-fill-in-requires
 fill-in-requires c κs =
-    let r = c .before .before .before .before in
-    let start = r .before .before .before .before .before .before in
+    let r = c .before .before .before in
+    let start = r .before .before .before .before .before in
     let n = start .args .n in
     let pre = start .pre in
     let few : 2 ^ start .args .p ≤ 2 ^ 3 = pow-mono (pre .1) in
     let short = le-of-eq (blocks-one (pre .2)) in (
       pre .0,
-      omega (arith, table-fits _ 8 few n 1 short, r .before .before .few-table-room .ensures),
+      omega (arith, table-fits _ 8 few n 1 short),
       rooms _ 8 few n 1 short (le-of-eq (r .before .mark-room .ensures)) (r .counters .ensures),
     )
 
@@ -51,12 +45,10 @@ pub fill-short-spec : {M : Type 1} → statement M
 fill-short-spec =
     tie.close
     (tie.spec
-    few-table-room-requires
     mark-room-requires
     counters-requires
     slice-aggregate-fill-in
     slice-aggregate-fill-in-2
-    slice-aggregate-fill-in-3
     fill-in-requires
     same-length
     returns)

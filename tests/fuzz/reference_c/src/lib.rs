@@ -101,6 +101,29 @@ pub unsafe extern "C" fn reference_decode(
     )
 }
 
+/// Game, in the library's form.
+///
+/// # Safety
+///
+/// As above.
+#[no_mangle]
+pub unsafe extern "C" fn reference_game(
+    book: *const u8,
+    book_len: usize,
+    words: u32,
+    received: *const u8,
+    received_len: usize,
+    messages: *mut u8,
+    messages_len: usize,
+) -> u32 {
+    packed::game(
+        slice::from_raw_parts(book, book_len),
+        words,
+        slice::from_raw_parts(received, received_len),
+        slice::from_raw_parts_mut(messages, messages_len),
+    )
+}
+
 /// Writes a codebook of the shelf and returns its length, 0 where the shelf
 /// has none of that number.
 ///

@@ -5,7 +5,7 @@ use native.Mathlib.Omega.{arith}
 use borrow.Author.Needs.{needs}
 use Rattle.spec_range.proofs.Tests.{true-test}
 use Rattle.spec_operations.specs.Burst.{burstInputRefusal}
-use Rattle.spec_operations.proofs.Burst.{words-high}
+use Rattle.spec_book.proofs.Inputs.{words-high}
 use Rattle.book.proofs.Described.{params-sizes}
 use Rattle.burst.proofs.Working.{burst-small, burst-number}
 use Rattle.burst.proofs.taking.refusal.Statement.{statement}

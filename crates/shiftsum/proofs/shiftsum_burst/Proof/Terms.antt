@@ -9,7 +9,7 @@ use Rattle.spec_field.specs.Answer.{answer}
 use Rattle.spec_operations.specs.Decoding.{matrixSize}
 use Rattle.spec_operations.specs.Burst.{burstRefusal, burstWord, recordsOf, ReturnsBurst}
 use Rattle.spec_operations.specs.Packed.{packed}
-use Rattle.spec_operations.proofs.Burst.{words-high}
+use Rattle.spec_book.proofs.Inputs.{words-high}
 use Rattle.burst.specs.Said.{listBytes}
 use Rattle.burst.specs.declared.Record.{Record}
 use Rattle.burst.specs.declared.Burst.{Burst}

@@ -1,0 +1,4 @@
+pub mod Held
+pub mod Reading
+pub mod Answering
+pub mod Room

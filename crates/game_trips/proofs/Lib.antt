@@ -1,0 +1,4 @@
+pub mod Mixing
+pub mod Accepted
+pub mod Coded
+pub mod OfBurst
