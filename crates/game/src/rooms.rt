@@ -1,5 +1,6 @@
-// The room that a game takes on the stack. None is larger than the book asks, as for decode, and each has a function of its own, so that rooms of which one
-// alone is used lie in one place. The functions of the two forms are called twice each: so a short book has no room for a long one's words.
+// The room that a game takes on the stack: the matrix by p, terms and answer words by the form, the table by p. Each has a function of its own, so that rooms
+// of which one alone is used lie in one place. Those of the form are called at two places and have the table's in them, and so are kept apart by the compiler:
+// a short book has no room for a long one's words.
 ghost use mathlib.Core.Path.{_≡_};
 ghost use mathlib.Core.Bool.{true, false};
 ghost use lib.ListN.{length};
