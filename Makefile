@@ -1,7 +1,7 @@
 # `make run` and `make test` are all a newcomer needs; both work from a fresh clone.
 .PHONY: run test cases check-time fuzz bench build install uninstall clean
 
-VERSION = 0.7.0
+VERSION = 0.8.0
 RT = rt
 INSTALL = install
 PREFIX = /usr/local

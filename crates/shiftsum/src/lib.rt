@@ -1,4 +1,4 @@
-// The C boundary: check, code, read, remainder, decode, burst and game on numbers and slices. A `&[u8]` is a pointer and a length in C. The matrix is a local buffer.
+// The C boundary: version, check, code, read, remainder, decode, burst and game on numbers and slices. A `&[u8]` is a pointer and a length in C. The matrix is a local buffer.
 ghost use mathlib.Core.Path.{_≡_};
 ghost use mathlib.Core.Bool.{true, false};
 ghost use mathlib.Core.List.{[]};
@@ -18,6 +18,7 @@ ghost use Rattle.decode.specs.Decoded as decodes;
 ghost use Rattle.burst.specs.Said.{listBytes};
 ghost use Rattle.game.specs.Said as games;
 ghost use Rattle.shiftsum.specs.Made.{Made};
+ghost use Rattle.shiftsum.specs.Version.{version};
 use book::Checked;
 use burst::Burst;
 use burst::Record;
@@ -72,6 +73,14 @@ fn pack_game(r: Game) -> u32
         Game::Held(count) => 256 * (count as u32) + 16777216 * (b'H' as u32),
         Game::Refused(number) => number as u32,
     }
+}
+
+// Tell the version.
+#[no_mangle]
+pub extern "C" fn shiftsum_version() -> u32
+    ensures { λ r. ⌜ r ≡ version 0 8 0 ⌝ }
+{
+    0x000800
 }
 
 // Check a codebook.
