@@ -18,7 +18,4 @@ int book_read(struct book *book, const char *name);
 /* Fills in n, k and p; the book must have been accepted. */
 void book_measure(struct book *book);
 
-/* What a refusal's number means, in a sentence. */
-const char *refusal_sentence(unsigned number);
-
 #endif

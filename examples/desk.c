@@ -342,7 +342,7 @@ int main(int argc, char **argv)
     }
     result = shiftsum_check(book.bytes, book.len);
     if (SHIFTSUM_REFUSAL(result) != 0) {
-        printf("codebook refused, %u: %s\n", SHIFTSUM_REFUSAL(result), refusal_sentence(SHIFTSUM_REFUSAL(result)));
+        printf("codebook refused, %u: %s\n", SHIFTSUM_REFUSAL(result), shiftsum_refusal_text(SHIFTSUM_REFUSAL(result)));
         return 3;
     }
     book_measure(&book);

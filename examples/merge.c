@@ -54,10 +54,8 @@ static void look(const struct book *book, struct held *held)
     uint8_t answers[RAW_MAX];
     unsigned m;
     shiftsum_burst(book->bytes, book->len, FRAMES, held->raw, held->len, answers, held->len, held->records, FRAMES);
-    for (m = 0; m < FRAMES; m++) {
-        const uint8_t kind = held->records[m].kind;
-        held->verdicts[m] = kind == SHIFTSUM_CLEAN || kind == SHIFTSUM_MENDED ? WITHHELD : UNREACHED;
-    }
+    for (m = 0; m < FRAMES; m++)
+        held->verdicts[m] = shiftsum_reached(held->records[m].kind) ? WITHHELD : UNREACHED;
 }
 
 /* Reads the frames of a whole game. Whether a lane sends such frames, all of them. */

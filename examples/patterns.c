@@ -89,7 +89,7 @@ int main(int argc, char **argv)
     }
     refusal = SHIFTSUM_REFUSAL(shiftsum_check(book.bytes, book.len));
     if (refusal != 0) {
-        printf("codebook refused, %u: %s\n", refusal, refusal_sentence(refusal));
+        printf("codebook refused, %u: %s\n", refusal, shiftsum_refusal_text(refusal));
         return 3;
     }
     book_measure(&book);
