@@ -18,7 +18,7 @@ ghost use Rattle.decode.specs.Decoded as decodes;
 ghost use Rattle.burst.specs.Said.{listBytes};
 ghost use Rattle.game.specs.Said as games;
 ghost use Rattle.shiftsum.specs.Made.{Made};
-ghost use Rattle.shiftsum.specs.Version.{version};
+ghost use Rattle.spec_operations.specs.Version.{version};
 use book::Checked;
 use burst::Burst;
 use burst::Record;

@@ -4,6 +4,7 @@ pub mod Coding
 pub mod Remainder
 pub mod Decoding
 pub mod Packed
+pub mod Version
 pub mod Twice
 pub mod Burst
 pub mod BurstTwice

@@ -1,7 +1,0 @@
--- The version of the library as a number, so that a caller can hold it against the header's.
--- Assumes nothing.
-use Prim.Native.Nat.{ℕ, _+_, _*_}
-
--- a byte each for major, minor and patch, the last one the lowest
-abbrev pub version : ℕ → ℕ → ℕ → ℕ
-version major minor patch = 65536 * major + 256 * minor + patch
