@@ -1,5 +1,5 @@
 # `make run` and `make test` are all a newcomer needs; both work from a fresh clone.
-.PHONY: run test cases check-time fuzz bench build install uninstall clean
+.PHONY: run test cases check-time fuzz bench build install put uninstall dist deb clean
 
 VERSION = 0.8.0
 RT = rt
@@ -8,11 +8,14 @@ PREFIX = /usr/local
 INCLUDEDIR = $(PREFIX)/include
 LIBDIR = $(PREFIX)/lib
 BINDIR = $(PREFIX)/bin
+MANDIR = $(PREFIX)/share/man
 # Where a package is put together; no part of the paths that shiftsum.pc names.
 DESTDIR =
 
 archive = target/staticlib/libshiftsum.a
 program = target/bin/decode_stream
+command = target/bin/shiftsum
+pages = shiftsum.1 decode_stream.1 shiftsum.3 shiftsum-codebook.5
 
 run:
 	@examples/show
@@ -44,18 +47,32 @@ build:
 	$(RT) check decode_stream
 
 install: build
+	@$(MAKE) --no-print-directory put
+
+# What install does once all is built; packages are put together by it too.
+put:
 	$(INSTALL) -d '$(DESTDIR)$(INCLUDEDIR)' '$(DESTDIR)$(LIBDIR)/pkgconfig' '$(DESTDIR)$(BINDIR)'
 	$(INSTALL) -m 644 include/shiftsum.h '$(DESTDIR)$(INCLUDEDIR)/shiftsum.h'
 	$(INSTALL) -m 644 $(archive) '$(DESTDIR)$(LIBDIR)/libshiftsum.a'
 	$(INSTALL) -m 755 $(program) '$(DESTDIR)$(BINDIR)/decode_stream'
+	$(INSTALL) -m 755 $(command) '$(DESTDIR)$(BINDIR)/shiftsum'
 	sed -e 's|@PREFIX@|$(PREFIX)|' -e 's|@INCLUDEDIR@|$(INCLUDEDIR)|' -e 's|@LIBDIR@|$(LIBDIR)|' -e 's|@VERSION@|$(VERSION)|' shiftsum.pc.in \
 		> '$(DESTDIR)$(LIBDIR)/pkgconfig/shiftsum.pc'
 	chmod 644 '$(DESTDIR)$(LIBDIR)/pkgconfig/shiftsum.pc'
+	for page in $(pages); do $(INSTALL) -D -m 644 "man/$$page" '$(DESTDIR)$(MANDIR)'/man"$${page##*.}/$$page" || exit; done
 
 # Folders stay: others may use them.
 uninstall:
 	rm -f '$(DESTDIR)$(INCLUDEDIR)/shiftsum.h' '$(DESTDIR)$(LIBDIR)/libshiftsum.a'
-	rm -f '$(DESTDIR)$(LIBDIR)/pkgconfig/shiftsum.pc' '$(DESTDIR)$(BINDIR)/decode_stream'
+	rm -f '$(DESTDIR)$(LIBDIR)/pkgconfig/shiftsum.pc' '$(DESTDIR)$(BINDIR)/decode_stream' '$(DESTDIR)$(BINDIR)/shiftsum'
+	for page in $(pages); do rm -f '$(DESTDIR)$(MANDIR)'/man"$${page##*.}/$$page" || exit; done
+
+# Packages, in target/dist: for use without the repository and without the kit.
+dist: build
+	@VERSION=$(VERSION) package/dist
+
+deb: build
+	@VERSION=$(VERSION) package/deb
 
 clean:
 	rm -rf target tests/*/target tests/fuzz/reference_c/target
