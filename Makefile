@@ -43,8 +43,8 @@ bench: build
 
 # rt proves and compiles again only what has changed.
 build:
-	$(RT) staticlib shiftsum
-	$(RT) check decode_stream
+	@package/progress $(RT) staticlib shiftsum
+	@package/progress $(RT) check decode_stream
 
 install: build
 	@$(MAKE) --no-print-directory put
