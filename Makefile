@@ -1,5 +1,5 @@
 # `make run` and `make test` are all a newcomer needs; both work from a fresh clone.
-.PHONY: run test cases check-time fuzz bench build install put uninstall dist deb clean
+.PHONY: run test cases check-time fuzz bench curves build install put uninstall dist deb clean
 
 VERSION = 0.8.0
 RT = rt
@@ -40,6 +40,10 @@ fuzz:
 # Times against C, as ratios; no test.
 bench: build
 	@bench/run
+
+# How many wrong symbols each stored codebook mends, for every D; no test. Needs rt only where there is no archive.
+curves:
+	@curves/run
 
 # rt proves and compiles again only what has changed.
 build:
