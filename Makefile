@@ -3,6 +3,8 @@
 
 VERSION = 0.8.0
 RT = rt
+CC ?= cc
+CFLAGS ?= -O2
 INSTALL = install
 PREFIX = /usr/local
 INCLUDEDIR = $(PREFIX)/include
@@ -49,6 +51,8 @@ curves:
 build:
 	@package/progress $(RT) staticlib shiftsum
 	@package/progress $(RT) check decode_stream
+	mkdir -p target/bin
+	$(CC) -std=c11 $(CFLAGS) -Wall -Wextra -pedantic -Iinclude command/*.c $(archive) -o $(command)
 
 install: build
 	@$(MAKE) --no-print-directory put
