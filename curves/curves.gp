@@ -45,12 +45,12 @@ unset logscale x
 set xlabel "wrong symbols in ".n
 set xrange [0:last]
 set yrange [0:1]
-set style fill solid 0.7 noborder
+set style fill solid 1.0 noborder
 do for [i = 1:2] {
     d = i == 1 ? own : longest
     set title sprintf("%s: what comes of the words, D %d, %s", book, d, i == 1 ? "its own" : "longest")
-    plot of(d) using 7:(($9+$10+$11+$12)/$8) with filledcurves y=0 lc rgb "#7f7f7f" title "Spent", \
-         of(d) using 7:(($9+$10+$11)/$8) with filledcurves y=0 lc rgb "#c7c7c7" title "Stalled", \
+    plot of(d) using 7:(($9+$10+$11+$12)/$8) with filledcurves y=0 lc rgb "#a0a0a0" title "Spent", \
+         of(d) using 7:(($9+$10+$11)/$8) with filledcurves y=0 lc rgb "#dddddd" title "Stalled", \
          of(d) using 7:(($9+$10)/$8) with filledcurves y=0 lc rgb "#d62728" title "another code word", \
          of(d) using 7:($9/$8) with filledcurves y=0 lc rgb "#98df8a" title "mended"
 }
