@@ -18,6 +18,8 @@ archive = target/staticlib/libshiftsum.a
 program = target/bin/decode_stream
 command = target/bin/shiftsum
 pages = shiftsum.1 decode_stream.1 shiftsum.3 shiftsum-codebook.5
+# Each function's own name leads to shiftsum(3) too.
+functions = $(shell grep -o '^uint32_t shiftsum_[a-z]*' include/shiftsum.h | cut -d ' ' -f 2)
 
 run:
 	@examples/show
@@ -68,12 +70,14 @@ put:
 		> '$(DESTDIR)$(LIBDIR)/pkgconfig/shiftsum.pc'
 	chmod 644 '$(DESTDIR)$(LIBDIR)/pkgconfig/shiftsum.pc'
 	for page in $(pages); do $(INSTALL) -D -m 644 "man/$$page" '$(DESTDIR)$(MANDIR)'/man"$${page##*.}/$$page" || exit; done
+	for name in $(functions); do \
+		echo '.so man3/shiftsum.3' > '$(DESTDIR)$(MANDIR)'/man3/"$$name.3" && chmod 644 '$(DESTDIR)$(MANDIR)'/man3/"$$name.3" || exit; done
 
 # Folders stay: others may use them.
 uninstall:
 	rm -f '$(DESTDIR)$(INCLUDEDIR)/shiftsum.h' '$(DESTDIR)$(LIBDIR)/libshiftsum.a'
 	rm -f '$(DESTDIR)$(LIBDIR)/pkgconfig/shiftsum.pc' '$(DESTDIR)$(BINDIR)/decode_stream' '$(DESTDIR)$(BINDIR)/shiftsum'
-	for page in $(pages); do rm -f '$(DESTDIR)$(MANDIR)'/man"$${page##*.}/$$page" || exit; done
+	for page in $(pages) $(functions:=.3); do rm -f '$(DESTDIR)$(MANDIR)'/man"$${page##*.}/$$page" || exit; done
 
 # Packages, in target/dist: for use without the repository and without the kit.
 dist: build

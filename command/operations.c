@@ -17,37 +17,34 @@ static void print_decoded(char kind, unsigned rounds, unsigned changed, const ui
     print_line(answer, n);
 }
 
+typedef uint32_t one_output(const uint8_t *, size_t, const uint8_t *, size_t, uint8_t *, size_t);
+
+/* A call whose output, of so many symbols, is its line. */
+static unsigned print_output(const struct job *job, one_output *call, size_t count, const uint8_t *input, size_t len)
+{
+    uint8_t output[SHIFTSUM_WORD_MAX];
+    unsigned refusal = SHIFTSUM_REFUSAL(call(job->book.bytes, job->book.len, input, len, output, count));
+    if (refusal == 0)
+        print_line(output, count);
+    return refusal;
+}
+
 static unsigned run_code(const struct job *job, const uint8_t *input, size_t len, int *held)
 {
-    uint8_t word[SHIFTSUM_WORD_MAX];
-    size_t n = shiftsum_n(job->book.bytes);
-    unsigned refusal = SHIFTSUM_REFUSAL(shiftsum_code(job->book.bytes, job->book.len, input, len, word, n));
     *held = 0;
-    if (refusal == 0)
-        print_line(word, n);
-    return refusal;
+    return print_output(job, shiftsum_code, shiftsum_n(job->book.bytes), input, len);
 }
 
 static unsigned run_read(const struct job *job, const uint8_t *input, size_t len, int *held)
 {
-    uint8_t message[SHIFTSUM_WORD_MAX];
-    size_t k = shiftsum_k(job->book.bytes);
-    unsigned refusal = SHIFTSUM_REFUSAL(shiftsum_read(job->book.bytes, job->book.len, input, len, message, k));
     *held = 0;
-    if (refusal == 0)
-        print_line(message, k);
-    return refusal;
+    return print_output(job, shiftsum_read, shiftsum_k(job->book.bytes), input, len);
 }
 
 static unsigned run_remainder(const struct job *job, const uint8_t *input, size_t len, int *held)
 {
-    uint8_t rest[SHIFTSUM_WORD_MAX];
-    size_t count = shiftsum_n(job->book.bytes) - shiftsum_k(job->book.bytes);
-    unsigned refusal = SHIFTSUM_REFUSAL(shiftsum_remainder(job->book.bytes, job->book.len, input, len, rest, count));
     *held = 0;
-    if (refusal == 0)
-        print_line(rest, count);
-    return refusal;
+    return print_output(job, shiftsum_remainder, shiftsum_n(job->book.bytes) - shiftsum_k(job->book.bytes), input, len);
 }
 
 static unsigned run_decode(const struct job *job, const uint8_t *input, size_t len, int *held)
