@@ -3,33 +3,27 @@
  *
  *     curves BOOK WORDS SEED STEP MOST [D]   WORDS error words by chance of each weight from 0 to 6, and from there on in steps, up to MOST
  *     curves BOOK all MOST [D]               every error word of the weights 1 to MOST, up to turns and factors
+ *     curves BOOK time WORDS SEED WEIGHT     how long it takes to decode so many of one weight, with the book's own D (timing.h)
  *
- * prints a line for each weight and each D from 1 to n, or the one D that is given, comma-separated, after a line of names. The book's own D is not
- * looked at: D is written into a copy of its bytes. The first form, for all D, ends with the second weight in a row of which no D mends one word in
- * fifty: a D that mends none of one weight may well mend some of the next.
+ * The first two print a line for each weight and each D from 1 to n, or the one D that is given, comma-separated, after a line of names. The book's own
+ * D is not looked at: D is written into a copy of its bytes. The first form, for all D, ends with the second weight in a row of which no D mends one word
+ * in fifty: a D that mends none of one weight may well mend some of the next.
  *
  * Every word is sent as zero. By the symmetry that is proved of decode (SCOPE 5.10 to 5.15) an error word leads from any other code word to the same kind
  * of answer, moved by that code word, so zero stands for all of them. All D get the same error words.
  *
  * Exit status: 0, 1 for a codebook that is refused, 2 for a wrong argument or a file that cannot be read or written.
  */
+#include "book.h"
 #include "errors.h"
+#include "timing.h"
 
 #include <errno.h>
 #include <stdio.h>
 #include <stdlib.h>
 #include <string.h>
 
-enum { SINGLY = 6, REFUSED = 1, WRONG = 2, AT_FORM = 3, AT_I = 68, AT_I_LONG = 260, LONG_FORM = 5 };
-
-struct book {
-    uint8_t bytes[SHIFTSUM_BOOK_MAX + 1]; /* one more, so that a file that is too long is seen to be */
-    size_t len;
-    size_t n;
-    unsigned q;
-    size_t at_i; /* D is the byte after I */
-    char label[64];
-};
+enum { SINGLY = 6 };
 
 /* What is to be measured. */
 struct task {
@@ -45,13 +39,7 @@ struct counts {
 
 static int usage(void)
 {
-    fputs("usage: curves BOOK WORDS SEED STEP MOST [D]\n       curves BOOK all MOST [D]\n", stderr);
-    return WRONG;
-}
-
-static int wrong(const char *what, const char *which)
-{
-    fprintf(stderr, "curves: %s: %s\n", which, what);
+    fputs("usage: curves BOOK WORDS SEED STEP MOST [D]\n       curves BOOK all MOST [D]\n       curves BOOK time WORDS SEED WEIGHT\n", stderr);
     return WRONG;
 }
 
@@ -64,46 +52,6 @@ static int number(const char *text, uint64_t least, uint64_t most, uint64_t *to)
     errno = 0;
     *to = strtoull(text, &end, 10);
     return errno == 0 && *end == 0 && *to >= least && *to <= most;
-}
-
-static int read_book(struct book *book, const char *name)
-{
-    FILE *file = fopen(name, "rb");
-    int sound;
-    if (file == NULL)
-        return 0;
-    book->len = fread(book->bytes, 1, sizeof book->bytes, file);
-    sound = !ferror(file);
-    fclose(file);
-    return sound;
-}
-
-/* The file's name without folders and ending. */
-static void label(struct book *book, const char *name)
-{
-    const char *slash = strrchr(name, '/');
-    char *dot;
-    snprintf(book->label, sizeof book->label, "%s", slash == NULL ? name : slash + 1);
-    dot = strrchr(book->label, '.');
-    if (dot != NULL && dot != book->label)
-        *dot = 0;
-}
-
-static int load(struct book *book, const char *name)
-{
-    unsigned refusal;
-    if (!read_book(book, name))
-        return wrong("this file cannot be read", name);
-    refusal = SHIFTSUM_REFUSAL(shiftsum_check(book->bytes, book->len));
-    if (refusal != 0) {
-        fprintf(stderr, "curves: %s: refused by %u: %s\n", name, refusal, shiftsum_refusal_text(refusal));
-        return REFUSED;
-    }
-    book->n = shiftsum_n(book->bytes);
-    book->q = shiftsum_q(book->bytes);
-    book->at_i = book->bytes[AT_FORM] == LONG_FORM ? AT_I_LONG : AT_I;
-    label(book, name);
-    return 0;
 }
 
 /* Up to 16 error words, mixed as a burst; how many. */
@@ -160,9 +108,9 @@ static struct counts measure(struct book *book, const struct task *task, size_t 
         errors_by_chance(&errors, book->n, book->q, weight, task->words, task->seed);
     book->bytes[book->at_i + 1] = (uint8_t)d;
     c = decode_all(book, &errors);
-    printf("%s,%zu,%zu,%u,%u,%zu,%zu,%llu,%llu,%llu,%llu,%llu\n", book->label, book->n, shiftsum_k(book->bytes), book->q, book->bytes[book->at_i], d,
-           weight, (unsigned long long)c.words, (unsigned long long)c.mended, (unsigned long long)c.other, (unsigned long long)c.stalled,
-           (unsigned long long)c.spent);
+    book_print(book, d);
+    printf(",%zu,%llu,%llu,%llu,%llu,%llu\n", weight, (unsigned long long)c.words, (unsigned long long)c.mended, (unsigned long long)c.other,
+           (unsigned long long)c.stalled, (unsigned long long)c.spent);
     return c;
 }
 
@@ -188,14 +136,21 @@ static int read_most(struct task *task, size_t n, const char *text)
     return 0;
 }
 
+/* WORDS and SEED. */
+static int read_words(struct task *task, char **texts)
+{
+    if (!number(texts[0], 1, 1000000000, &task->words))
+        return wrong("the count of words is a number from 1 to 1000000000, or all", texts[0]);
+    return number(texts[1], 0, UINT64_MAX, &task->seed) ? 0 : wrong("the seed is a number from 0 on", texts[1]);
+}
+
 /* WORDS, SEED, STEP and MOST. */
 static int read_chance(struct task *task, size_t n, char **texts)
 {
     uint64_t step;
-    if (!number(texts[0], 1, 1000000000, &task->words))
-        return wrong("the count of words is a number from 1 to 1000000000, or all", texts[0]);
-    if (!number(texts[1], 0, UINT64_MAX, &task->seed))
-        return wrong("the seed is a number from 0 on", texts[1]);
+    int status = read_words(task, texts);
+    if (status != 0)
+        return status;
     if (!number(texts[2], 1, n, &step))
         return wrong("the step of the weights is a number from 1 to n", texts[2]);
     task->step = (size_t)step;
@@ -241,18 +196,40 @@ static void measure_all(struct book *book, const struct task *task)
     }
 }
 
+/* The time a word takes. */
+static int measure_time(const struct book *book, int count, char **texts)
+{
+    struct task task;
+    int status;
+    if (count != 3)
+        return usage();
+    status = read_words(&task, texts);
+    if (status == 0)
+        status = read_most(&task, book->n, texts[2]);
+    if (status == 0)
+        timing_print(book, task.words, task.seed, task.most);
+    return status;
+}
+
+static int measure_curves(struct book *book, int count, char **texts)
+{
+    struct task task;
+    int status = read_task(&task, book->n, count, texts);
+    if (status == 0)
+        measure_all(book, &task);
+    return status;
+}
+
 int main(int count, char **texts)
 {
     struct book book;
-    struct task task;
     int status;
     if (count < 4)
         return usage();
-    status = load(&book, texts[1]);
+    status = book_load(&book, texts[1]);
     if (status == 0)
-        status = read_task(&task, book.n, count - 2, texts + 2);
+        status = strcmp(texts[2], "time") == 0 ? measure_time(&book, count - 3, texts + 3) : measure_curves(&book, count - 2, texts + 2);
     if (status != 0)
         return status;
-    measure_all(&book, &task);
     return fflush(stdout) == 0 && !ferror(stdout) ? 0 : wrong("cannot be written", "standard output");
 }
