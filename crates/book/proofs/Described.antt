@@ -11,7 +11,6 @@ use Rattle.spec_field.specs.Field.{FieldOps}
 use Rattle.spec_field.specs.Symbols.{gf}
 use Rattle.spec_word.specs.Word.{at}
 use Rattle.spec_word.specs.Division.{coefficients, allZero, remainder, divides}
-use Rattle.spec_word.specs.CyclicCode.{isCode}
 use Rattle.spec_word.proofs.Unique.{remainder-same}
 use Rattle.word_array.specs.Stored as S
 use Rattle.word_array.specs.Stored.{place, Stored}
@@ -103,12 +102,8 @@ module _ (bytes : List ℕ) (c : Params) (d : Describes bytes c) where
           → (i : ℕ) → i < c .degree → place r i ≡ coefficients R i
       remainder-tabulated m i l = m .places i l ∙ ap (λ (R : List ℕ). coefficients R i) divided
 
-      -- the test that is made of it is the definition's for a code word
-      pub code-tested : divides (gf (c .p)) (c .degree) (wordOf (stride (c .n)) (c .n) t) (c .n) f ≡ isCodeWord (fieldOf bytes) (bookOf bytes) (at (bookOf bytes .n) w)
-      unfolding divides isCode
-      code-tested = ap (allZero (c .degree)) divided ∙ ap (λ (k : ℕ). allZero k R) (d .degree-is)
-
+      -- it is all zero exactly where the definition has a code word
       pub code-tabulated : {r : List ℕ} → Remains (c .p) (c .n) (c .degree) (wordOf (stride (c .n)) (c .n) t) f r
           → allZero (c .degree) r ≡ isCodeWord (fieldOf bytes) (bookOf bytes) (at (bookOf bytes .n) w)
       unfolding divides
-      code-tabulated m = remains-test m ∙ code-tested
+      code-tabulated m = remains-test m ∙ ap (allZero (c .degree)) divided ∙ ap (λ (k : ℕ). allZero k R) (d .degree-is)

@@ -80,9 +80,19 @@ module _ (bytes : List ℕ) where
     pub answer-is : listed (r .word) ≡ x .answer
     pub matrix-is : m ≡ x .entries
 
--- what a round is given: an opened book, whichever bytes hold it, a word of symbols and room for the matrix
-pub record Ready (c : Params) (t terms w m : List ℕ) : Type 0 where
+-- what a round is given: an opened book, whichever bytes hold it, a word of symbols, and room for the matrix and for a remainder
+pub record Ready (c : Params) (t terms w m rest : List ℕ) : Type 0 where
   pub bytes : List ℕ
   pub prepared : Prepared bytes c t terms
   pub word : Stored (c .p) 255 w
+  pub size : length m ≡ 2 ^ c .p * c .n
+  pub long : c .n + span (c .n) ≤ length rest
+
+-- what decoding a word is given: an opened book, a received word of symbols, and room for the matrix
+pub record Received (bytes : List ℕ) (c : Params) (t terms received m : List ℕ) : Type 0 where
+  pub describes : Describes bytes c
+  pub table-is : Tabulated bytes (c .p) (c .n) t
+  pub terms-room : TermsRoom bytes c terms
+  pub long : c .n ≤ length received
+  pub word : Stored (c .p) (c .n) received
   pub size : length m ≡ 2 ^ c .p * c .n

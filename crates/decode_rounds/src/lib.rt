@@ -2,15 +2,15 @@
 ghost use mathlib.Core.Path.{_≡_};
 ghost use mathlib.Core.Bool.{false};
 ghost use mathlib.Core.List.{List};
-ghost use Prim.Native.Nat.{ℕ, _*_, _^_, _≤_};
+ghost use Prim.Native.Nat.{ℕ, _+_, _≤_};
 ghost use lib.ListN.{length};
 ghost use Rattle.spec_book.specs.Layout.{fieldOf, bookOf};
 ghost use Rattle.spec_decoding.specs.Matrix.{matrix};
 ghost use Rattle.spec_decoding.specs.Decode.{decode};
-ghost use Rattle.word_array.specs.Stored.{Stored};
-ghost use Rattle.book.specs.Params.{Tabulated, Describes};
-ghost use Rattle.decode_rounds.specs.Rounds.{stepOf, listed, allRounds, Prepared, TermsRoom, Ready, Stepped, Ended};
+ghost use Rattle.sizes.specs.Blocks.{span};
+ghost use Rattle.decode_rounds.specs.Rounds.{stepOf, listed, allRounds, Prepared, TermsRoom, Ready, Received, Stepped, Ended};
 use book::Params;
+use sizes::BLOCK;
 use sizes::Word;
 
 // The kind of answer.
@@ -41,7 +41,7 @@ pub struct End {
     pub word: Word,
 }
 
-// What comes of a round that changed the word: a remainder of zero tells a code word.
+// What comes of a round that changed the word: a code word is one whose remainder is zero.
 fn changed(zero: bool) -> Step
     ensures { λ r. ⌜ r ≡ stepOf false zero ⌝ }
 {
@@ -51,9 +51,16 @@ fn changed(zero: bool) -> Step
     Step::Going
 }
 
-// One round: makes the matrix and the update set, subtracts, and divides: a code word leaves the remainder zero.
-fn round(c: Params, t: &[u8], terms: &[u16], w: Word, m: &mut [u16]) -> Rounded
-    requires { ⌜ Ready c (now t) (now terms) w (now m) ⌝ }
+// One round: makes the matrix and the update set, subtracts, and divides the new word. Its remainder is left in `rest`.
+fn round(
+    c: Params,
+    t: &[u8],
+    terms: &[u16],
+    w: Word,
+    m: &mut [u16],
+    rest: &mut [u8],
+) -> Rounded
+    requires { ⌜ Ready c (now t) (now terms) w (now m) (now rest) ⌝ }
     ensures { λ r. ⌜ ((bytes : List ℕ) → Prepared bytes c (now (t .entry)) (now (terms .entry))
         → Stepped bytes (matrix (fieldOf bytes) (bookOf bytes)) w r (now (m .exit))) ⌝ }
 {
@@ -67,13 +74,14 @@ fn round(c: Params, t: &[u8], terms: &[u16], w: Word, m: &mut [u16]) -> Rounded
             word: next,
         };
     }
-    let step = changed(word_divide::divides(c.p, n, c.degree, t, &next));
+    word_divide::remainder(c.p, n, c.degree, t, &next, rest);
+    let step = changed(word_array::is_zero(c.degree, rest));
     Rounded { step, word: next }
 }
 
 // The rounds for a received word that is not a code word.
-fn go(c: Params, t: &[u8], terms: &[u16], r: Word, m: &mut [u16]) -> End
-    requires { ⌜ Ready c (now t) (now terms) r (now m) ⌝ }
+fn go(c: Params, t: &[u8], terms: &[u16], r: Word, m: &mut [u16], rest: &mut [u8]) -> End
+    requires { ⌜ Ready c (now t) (now terms) r (now m) (now rest) ⌝ }
     ensures { λ x. ⌜ ((bytes : List ℕ) → Prepared bytes c (now (t .entry)) (now (terms .entry))
         → Ended bytes (allRounds bytes (matrix (fieldOf bytes) (bookOf bytes)) (listed bytes r)) x (now (m .exit))) ⌝ }
 {
@@ -81,7 +89,7 @@ fn go(c: Params, t: &[u8], terms: &[u16], r: Word, m: &mut [u16]) -> End
     let mut w = r;
     let mut made: u8 = 0;
     while made < most {
-        let s = round(c, t, terms, w, m);
+        let s = round(c, t, terms, w, m, rest);
         let step = s.step;
         let next = s.word;
         made += 1;
@@ -113,21 +121,22 @@ fn go(c: Params, t: &[u8], terms: &[u16], r: Word, m: &mut [u16]) -> End
 }
 
 // Decodes a received word: Clean where its remainder is zero, with a matrix of zeros; else by rounds, before the first of which the terms are listed.
-pub fn run(
+fn run_in(
     book: &[u8],
     c: Params,
     t: &[u8],
     terms: &mut [u16],
     received: &[u8],
     m: &mut [u16],
+    rest: &mut [u8],
 ) -> End
-    requires { ⌜ Describes (now book) c × Tabulated (now book) (c .p) (c .n) (now t) × TermsRoom (now book) c (now terms)
-        × (c .n ≤ length (now received)) × Stored (c .p) (c .n) (now received) × (length (now m) ≡ 2 ^ c .p * c .n) ⌝ }
+    requires { ⌜ Received (now book) c (now t) (now terms) (now received) (now m) × (c .n + span (c .n) ≤ length (now rest)) ⌝ }
     ensures { λ x. ⌜ Ended (now (book .entry)) (decode (fieldOf (now (book .entry))) (bookOf (now (book .entry))) (listed (now (book .entry)) (now (received .entry)))) x
         (now (m .exit)) × TermsRoom (now (book .entry)) c (now (terms .exit)) ⌝ }
 {
     let r = word_array::load(received, 0, c.n);
-    if word_divide::divides(c.p, c.n, c.degree, t, received) {
+    word_divide::remainder(c.p, c.n, c.degree, t, received, rest);
+    if word_array::is_zero(c.degree, rest) {
         matrix::clear(m);
         return End {
             kind: Kind::Clean,
@@ -136,5 +145,26 @@ pub fn run(
         };
     }
     matrix_terms::ready(book, c.p, c.n, c.duals, terms);
-    go(c, t, terms, r, m)
+    go(c, t, terms, r, m, rest)
+}
+
+// The same with a buffer for the remainders, by the length of words: to clear a larger one costs time.
+pub fn run(
+    book: &[u8],
+    c: Params,
+    t: &[u8],
+    terms: &mut [u16],
+    received: &[u8],
+    m: &mut [u16],
+) -> End
+    requires { ⌜ Received (now book) c (now t) (now terms) (now received) (now m) ⌝ }
+    ensures { λ x. ⌜ Ended (now (book .entry)) (decode (fieldOf (now (book .entry))) (bookOf (now (book .entry))) (listed (now (book .entry)) (now (received .entry)))) x
+        (now (m .exit)) × TermsRoom (now (book .entry)) c (now (terms .exit)) ⌝ }
+{
+    if c.n < BLOCK {
+        let mut rest = word_divide::short_room();
+        return run_in(book, c, t, terms, received, m, &mut rest);
+    }
+    let mut rest = word_divide::room();
+    run_in(book, c, t, terms, received, m, &mut rest)
 }

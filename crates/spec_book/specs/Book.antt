@@ -6,8 +6,8 @@ use mathlib.Core.List.{List}
 use Prim.Native.Nat.{ℕ, _-_, _+_, _<_}
 use Rattle.spec_field.specs.Field.{FieldOps}
 use Rattle.spec_word.specs.Word.{weight, product}
-use Rattle.spec_word.specs.Division.{remainder}
-use Rattle.spec_word.specs.CyclicCode.{Generator, isCode}
+use Rattle.spec_word.specs.Division.{remainder, divides}
+use Rattle.spec_word.specs.CyclicCode.{Generator}
 
 -- SCOPE 3.1: what a codebook's records hold
 pub record Book : Type 0 where
@@ -34,7 +34,7 @@ remainderBy F B w = remainder F (B .degree) (B .generator) (B .n) w
 
 -- SCOPE 4.4: a word is a code word of the book: all n − k symbols of its remainder are zero
 abbrev pub isCodeWord : FieldOps → Book → (ℕ → ℕ) → Bool
-isCodeWord F B w = isCode F (B .n) (B .degree) (B .generator) w
+isCodeWord F B w = divides F (B .degree) (B .generator) (B .n) w
 
 -- SCOPE 3.16: what coding and decoding rest on; every book that passes the conditions 1 to 8 has it
 pub record Usable (F : FieldOps) (B : Book) : Type 0 where

@@ -7,7 +7,7 @@ use Rattle.spec_range.specs.Table.{table}
 use Rattle.spec_field.specs.Symbols.{polynomial, timesX, shiftAdd, product, first, inverse}
 use Rattle.spec_word.specs.Word as W
 use Rattle.spec_word.specs.Division.{before, allZero, reduce, remainder, quotient, divides}
-use Rattle.spec_word.specs.CyclicCode.{unity, isCode}
+use Rattle.spec_word.specs.CyclicCode.{unity}
 use Rattle.spec_word.specs.Alike.{isMultipleOfTurn, alike}
 use Rattle.spec_word.specs.Lanes.{lane, packed}
 use Rattle.spec_word.specs.Mixed.{mixed, unmixed, joined}
@@ -23,7 +23,7 @@ use Rattle.spec_operations.specs.Game.{gameInputRefusal, gameRefusal}
 use Rattle.spec_cases.specs.Cases.{checks, codes, reads, declines, fills, decodes, holds, leaves, compares, bursts, burstDeclines, games, gameDeclines, moved, packs, unpacks, cases, remainders, likenesses, shorts, forms, packings, burstCases, gameCases, accepted, AllHold, none, _also_}
 
 pub cases-hold : AllHold cases
-unfolding codes fills decodes holds moved fold table polynomial timesX shiftAdd product first inverse W.at W.distance W.turn W.product W.scale W.plus before allZero reduce remainder isCode width degreeOf bookOf encode checkSum checkValue entryOf matrixOf cell peak zeroCount peakCount holders inUpdateSet correction emptyUpdateSet corrected run decodeWith move
+unfolding codes fills decodes holds moved fold table polynomial timesX shiftAdd product first inverse W.at W.distance W.turn W.product W.scale W.plus before allZero reduce remainder divides width degreeOf bookOf encode checkSum checkValue entryOf matrixOf cell peak zeroCount peakCount holders inUpdateSet correction emptyUpdateSet corrected run decodeWith move
 cases-hold = refl also refl also refl also refl also refl also refl also refl also refl also refl also refl also refl also refl also refl also refl also refl also none
 
 pub remainders-hold : AllHold remainders
@@ -47,11 +47,11 @@ unfolding packs unpacks fold table lane packed
 packings-hold = refl also refl also refl also refl also refl also none
 
 pub bursts-hold : AllHold burstCases
-unfolding bursts burstDeclines mixed unmixed joined burstInputRefusal burstRefusal wordsOk inputOk inputRefusal fold table polynomial timesX shiftAdd product first inverse W.at W.weight W.distance W.product isMultipleOfTurn alike before allZero reduce remainder divides unity isCode width degreeOf bookOf lengthFits lengthOk kindsOk sizesOk bodyOk symbolsOk generatorOk limitsOk dualOk dualsOk distinctOk bookRefusal refusal checkSum checkValue entryOf matrixOf cell peak zeroCount peakCount holders inUpdateSet correction emptyUpdateSet corrected run decodeWith
+unfolding bursts burstDeclines mixed unmixed joined burstInputRefusal burstRefusal wordsOk inputOk inputRefusal fold table polynomial timesX shiftAdd product first inverse W.at W.weight W.distance W.product isMultipleOfTurn alike before allZero reduce remainder divides unity width degreeOf bookOf lengthFits lengthOk kindsOk sizesOk bodyOk symbolsOk generatorOk limitsOk dualOk dualsOk distinctOk bookRefusal refusal checkSum checkValue entryOf matrixOf cell peak zeroCount peakCount holders inUpdateSet correction emptyUpdateSet corrected run decodeWith
 bursts-hold = refl also refl also refl also refl also refl also refl also refl also refl also refl also refl also refl also refl also none
 
 pub games-hold : AllHold gameCases
-unfolding games gameDeclines unmixed joined gameInputRefusal gameRefusal wordsOk inputOk inputRefusal fold table polynomial timesX shiftAdd product first inverse W.at W.weight W.distance W.product isMultipleOfTurn alike before allZero reduce remainder quotient divides unity isCode message width degreeOf bookOf lengthFits lengthOk kindsOk sizesOk bodyOk symbolsOk generatorOk limitsOk dualOk dualsOk distinctOk bookRefusal refusal checkSum checkValue entryOf matrixOf cell peak zeroCount peakCount holders inUpdateSet correction emptyUpdateSet corrected run decodeWith
+unfolding games gameDeclines unmixed joined gameInputRefusal gameRefusal wordsOk inputOk inputRefusal fold table polynomial timesX shiftAdd product first inverse W.at W.weight W.distance W.product isMultipleOfTurn alike before allZero reduce remainder quotient divides unity message width degreeOf bookOf lengthFits lengthOk kindsOk sizesOk bodyOk symbolsOk generatorOk limitsOk dualOk dualsOk distinctOk bookRefusal refusal checkSum checkValue entryOf matrixOf cell peak zeroCount peakCount holders inUpdateSet correction emptyUpdateSet corrected run decodeWith
 games-hold = refl also refl also refl also refl also refl also refl also refl also refl also refl also refl also refl also none
 
 pub books-accepted : AllHold accepted

@@ -99,7 +99,7 @@ module _ (F : FieldOps) (laws : FieldLaws F) (B : Book) (ok : Usable F B) where
 
     pub encode-code : T (isCodeWord F B (at n (encode F B f)))
     encode-code =
-        D.divided-code F degree generator laws n (at n (encode F B f)) (λ i h.
+        D.divides-of F degree generator laws n (at n (encode F B f)) (λ i h.
         D.remainder-cong F degree generator laws n (at n (encode F B f)) combined as-combined i
         ∙ Q.combine-remainder F degree generator laws degree-pos monic above (n - degree) n (coefficients f) (λ j. 0) symbols
         (λ i _. refl) (omega (arith, degree-lt)) i h)
@@ -164,4 +164,4 @@ module _ (F : FieldOps) (laws : FieldLaws F) (B : Book) (ok : Usable F B) where
           where
             none : Dec (degree ≤ j) → D.remainderAt F degree generator n (at n w) j ≡ 0
             none (yes h) = Q.remainder-above F degree generator laws degree-pos monic above n (at n w) (hw .symbols) j h
-            none (no h) = D.code-divided F degree generator laws n (at n w) t j (omega arith)
+            none (no h) = D.divided-of F degree generator laws n (at n w) t j (omega arith)

@@ -16,8 +16,8 @@ use Rattle.spec_decoding.specs.Symmetry.{move, Moved}
 use Rattle.spec_field.proofs.Laws as L
 use Rattle.spec_word.proofs.Place.{SymbolList, list-word, turn-back, turn-on, at-same, at-lt, at-table, at-scaled-turn, table-symbols, scaled-symbols}
 use Rattle.spec_word.proofs.Product.{Shifted}
-use Rattle.spec_word.proofs.Division.{code-divided}
-use Rattle.spec_word.proofs.CyclicCode.{CodeWord, n-pos, isCode-shifted}
+use Rattle.spec_word.proofs.Division.{divided-of}
+use Rattle.spec_word.proofs.CyclicCode.{CodeWord, n-pos, divides-shifted}
 use Rattle.spec_decoding.proofs.Matrix.{matrix-shifted}
 use Rattle.spec_decoding.proofs.Motion.{Motion, MovedMatrix, MovedWord}
 use Rattle.spec_decoding.proofs.Decode.{MovedResult, decode-answer, decode-moved}
@@ -59,7 +59,7 @@ module _ (F : FieldOps) (laws : FieldLaws F) (B : Book) (ok : Usable F B) where
       Moves w w′ = MovedWord motion (at n v) (at n w) (at n w′)
 
       code : CodeWord F laws n degree generator generates (at n v)
-      code = code-divided F degree generator laws n (at n v) v-code
+      code = divided-of F degree generator laws n (at n v) v-code
 
       -- the places below n stand for all
       shifted : (w w′ : List ℕ) → Moves w w′ → Shifted F t c (at n v) (at n w) (at n w′)
@@ -72,7 +72,7 @@ module _ (F : FieldOps) (laws : FieldLaws F) (B : Book) (ok : Usable F B) where
           same = mod-mod (j % n + t) n ∙ mod-add-mod j n t
 
       codes : (w w′ : List ℕ) → SymbolList F n w → SymbolList F n w′ → Moves w w′ → isCodeWord F B (at n w′) ≡ isCodeWord F B (at n w)
-      codes w w′ hw hw′ m = isCode-shifted F laws n degree generator generates t c-pos hc (list-word hv) code (list-word hw) (list-word hw′) (shifted w w′ m)
+      codes w w′ hw hw′ m = divides-shifted F laws n degree generator generates t c-pos hc (list-word hv) code (list-word hw) (list-word hw′) (shifted w w′ m)
 
       makes : (w w′ : List ℕ) → SymbolList F n w → SymbolList F n w′ → Moves w w′
           → MovedMatrix motion (cell F B (matrix F B (at n w))) (cell F B (matrix F B (at n w′)))

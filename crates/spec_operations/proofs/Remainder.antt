@@ -9,9 +9,10 @@ use Rattle.spec_field.specs.Field.{FieldOps, FieldLaws}
 use Rattle.spec_field.specs.Answer.{Answer, orElse}
 use Rattle.spec_field.proofs.Refusals.{found-first}
 use Rattle.spec_word.specs.Word.{IsWord, at, plus}
-use Rattle.spec_word.specs.CyclicCode.{Generator, isCode}
+use Rattle.spec_word.specs.Division.{divides}
+use Rattle.spec_word.specs.CyclicCode.{Generator}
 use Rattle.spec_word.proofs.Place.{at-plus}
-use Rattle.spec_word.proofs.CyclicCode.{isCode-cong}
+use Rattle.spec_word.proofs.CyclicCode.{divides-cong}
 use Rattle.spec_word.proofs.Unique.{equal-remainders, difference-of-equal, remainder-added, remainder-same, code-remainder, code-of-zero}
 use Rattle.spec_book.specs.Book.{Book}
 use Rattle.spec_book.specs.Layout.{fieldOf, bookOf}
@@ -85,5 +86,5 @@ module _ (bytes : List ℕ) where
         writes′ : out′ ≡ remainderOf bytes w′
         writes′ = wrote-new z′ h′
 
-        summed : differByCode bytes w w′ ≡ isCode F n degree generator (λ j. F .add (at n w j) (at n w′ j))
-        summed = isCode-cong F laws n degree generator (at n (plus F n w w′)) _ (λ j l. at-plus F n w w′ l)
+        summed : differByCode bytes w w′ ≡ divides F degree generator n (λ j. F .add (at n w j) (at n w′ j))
+        summed = divides-cong F laws n degree generator (at n (plus F n w w′)) _ (λ j l. at-plus F n w w′ l)

@@ -6,7 +6,7 @@ use Rattle.spec_range.specs.Table.{table}
 use Rattle.spec_field.specs.Symbols.{polynomial, timesX, shiftAdd, product, first, inverse}
 use Rattle.spec_word.specs.Word as W
 use Rattle.spec_word.specs.Division.{before, allZero, reduce, remainder, divides}
-use Rattle.spec_word.specs.CyclicCode.{unity, isCode}
+use Rattle.spec_word.specs.CyclicCode.{unity}
 use Rattle.spec_book.specs.Layout.{width, degreeOf, bookOf}
 use Rattle.spec_book.specs.Conditions.{lengthFits, lengthOk, kindsOk, sizesOk, bodyOk, symbolsOk, generatorOk, limitsOk, dualOk, dualsOk, distinctOk, bookRefusal, refusal}
 use Rattle.spec_book.specs.Conditions.{inputOk, inputRefusal}
@@ -18,5 +18,5 @@ use Rattle.spec_program.specs.Output.{wordLine, linesOf, textOf, opening
 use Rattle.spec_program.specs.Example.{exampleInput, exampleOutput}
 
 pub example : output exampleInput ≡ exampleOutput
-unfolding fold table polynomial timesX shiftAdd product first inverse W.at W.distance W.weight W.product before allZero reduce remainder divides unity isCode width degreeOf bookOf lengthFits lengthOk kindsOk sizesOk bodyOk symbolsOk generatorOk limitsOk dualOk dualsOk distinctOk bookRefusal refusal inputOk inputRefusal checkSum checkValue entryOf matrixOf cell peak zeroCount peakCount holders inUpdateSet correction emptyUpdateSet corrected run decodeWith decodeInputRefusal decodeRefusal glyph decimalOf hexOf answerLine wordLine linesOf textOf openingRefusal output
+unfolding fold table polynomial timesX shiftAdd product first inverse W.at W.distance W.weight W.product before allZero reduce remainder divides unity width degreeOf bookOf lengthFits lengthOk kindsOk sizesOk bodyOk symbolsOk generatorOk limitsOk dualOk dualsOk distinctOk bookRefusal refusal inputOk inputRefusal checkSum checkValue entryOf matrixOf cell peak zeroCount peakCount holders inUpdateSet correction emptyUpdateSet corrected run decodeWith decodeInputRefusal decodeRefusal glyph decimalOf hexOf answerLine wordLine linesOf textOf openingRefusal output
 example = refl

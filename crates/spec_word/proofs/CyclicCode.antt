@@ -10,18 +10,19 @@ use Rattle.spec_range.proofs.Fold.{fold-cong, fold-unit, fold-extend}
 use Rattle.spec_field.specs.Field.{FieldOps, FieldLaws}
 use Rattle.spec_field.proofs.Laws as L
 use Rattle.spec_word.specs.Word.{sum, product}
-use Rattle.spec_word.specs.CyclicCode.{Generator, isCode}
+use Rattle.spec_word.specs.Division.{divides}
+use Rattle.spec_word.specs.CyclicCode.{Generator}
 use Rattle.spec_word.proofs.Sums.{field-sums}
 use Rattle.spec_word.proofs.Place.{Word, multiple, period-times, period-mod, period-back}
 use Rattle.spec_word.proofs.Product.{Shifted, product-comm, product-period}
 use Rattle.spec_word.proofs.Division as D
 
 -- a code word is one by its places below n
-pub isCode-cong : (F : FieldOps) → FieldLaws F → (n d : ℕ) (g w v : ℕ → ℕ) → ((j : ℕ) → j < n → w j ≡ v j) → isCode F n d g w ≡ isCode F n d g v
-isCode-cong F laws n d g w v h =
-    same-test (isCode F n d g w) (isCode F n d g v)
-    (λ t. D.divided-code F d g laws n v (λ i l. sym (D.remainder-cong F d g laws n w v h i) ∙ D.code-divided F d g laws n w t i l))
-    (λ t. D.divided-code F d g laws n w (λ i l. D.remainder-cong F d g laws n w v h i ∙ D.code-divided F d g laws n v t i l))
+pub divides-cong : (F : FieldOps) → FieldLaws F → (n d : ℕ) (g w v : ℕ → ℕ) → ((j : ℕ) → j < n → w j ≡ v j) → divides F d g n w ≡ divides F d g n v
+divides-cong F laws n d g w v h =
+    same-test (divides F d g n w) (divides F d g n v)
+    (λ t. D.divides-of F d g laws n v (λ i l. sym (D.remainder-cong F d g laws n w v h i) ∙ D.divided-of F d g laws n w t i l))
+    (λ t. D.divides-of F d g laws n w (λ i l. D.remainder-cong F d g laws n w v h i ∙ D.divided-of F d g laws n v t i l))
 
 module _ (F : FieldOps) (laws : FieldLaws F) (n d : ℕ) (g : ℕ → ℕ) (G : Generator F n d g) where
   open FieldOps F using (q, add as _⊕_, mul as _⊗_, inv)
@@ -53,14 +54,14 @@ module _ (F : FieldOps) (laws : FieldLaws F) (n d : ℕ) (g : ℕ → ℕ) (G : 
 
   -- ---- the code is linear and cyclic
 
-  pub code-add : (w v : ℕ → ℕ) → T (isCode F n d g w) → T (isCode F n d g v) → T (isCode F n d g (λ j. w j ⊕ v j))
-  code-add w v hw hv = D.divided-code F d g laws n _ (D.divided-add F d g laws n w v (D.code-divided F d g laws n w hw) (D.code-divided F d g laws n v hv))
+  pub code-add : (w v : ℕ → ℕ) → T (divides F d g n w) → T (divides F d g n v) → T (divides F d g n (λ j. w j ⊕ v j))
+  code-add w v hw hv = D.divides-of F d g laws n _ (D.divided-add F d g laws n w v (D.divided-of F d g laws n w hw) (D.divided-of F d g laws n v hv))
 
-  pub code-scale : (c : ℕ) (w : ℕ → ℕ) → T (isCode F n d g w) → T (isCode F n d g (λ j. c ⊗ w j))
-  code-scale c w h = D.divided-code F d g laws n _ (D.divided-scale F d g laws c n w (D.code-divided F d g laws n w h))
+  pub code-scale : (c : ℕ) (w : ℕ → ℕ) → T (divides F d g n w) → T (divides F d g n (λ j. c ⊗ w j))
+  code-scale c w h = D.divides-of F d g laws n _ (D.divided-scale F d g laws c n w (D.divided-of F d g laws n w h))
 
-  pub code-turn : (t : ℕ) {w : ℕ → ℕ} → Word F n w → T (isCode F n d g w) → T (isCode F n d g (λ j. w (j + t)))
-  code-turn t {w} w-word h = D.divided-code F d g laws n _ (turn-on t w-word (D.code-divided F d g laws n w h))
+  pub code-turn : (t : ℕ) {w : ℕ → ℕ} → Word F n w → T (divides F d g n w) → T (divides F d g n (λ j. w (j + t)))
+  code-turn t {w} w-word h = D.divides-of F d g laws n _ (turn-on t w-word (D.divided-of F d g laws n w h))
 
   -- ---- a word moved: turned by t, multiplied by c, and with v added
 
@@ -81,11 +82,11 @@ module _ (F : FieldOps) (laws : FieldLaws F) (n d : ℕ) (g : ℕ → ℕ) (G : 
           (D.divided-scale F d g laws (inv c) n (λ j. w′ (j + t) ⊕ v (j + t))
           (D.divided-add F d g laws n (λ j. w′ (j + t)) (λ j. v (j + t)) (turn-on t w′-word h) (turn-on t v-word v-code)))
 
-      pub isCode-shifted : isCode F n d g w′ ≡ isCode F n d g w
-      isCode-shifted =
-          same-test (isCode F n d g w′) (isCode F n d g w)
-          (λ h. D.divided-code F d g laws n w (code-shifted-back (D.code-divided F d g laws n w′ h)))
-          (λ h. D.divided-code F d g laws n w′ (code-shifted (D.code-divided F d g laws n w h)))
+      pub divides-shifted : divides F d g n w′ ≡ divides F d g n w
+      divides-shifted =
+          same-test (divides F d g n w′) (divides F d g n w)
+          (λ h. D.divides-of F d g laws n w (code-shifted-back (D.divided-of F d g laws n w′ h)))
+          (λ h. D.divides-of F d g laws n w′ (code-shifted (D.divided-of F d g laws n w h)))
 
   -- ---- words that g annihilates
 

@@ -12,7 +12,7 @@ use Rattle.spec_range.specs.Fold.{fold}
 use Rattle.spec_field.specs.Field.{FieldOps, FieldLaws}
 use Rattle.spec_word.specs.Word.{sum}
 use Rattle.spec_word.specs.Division.{before, coefficients, allZero, reduce, remainder, divides}
-use Rattle.spec_word.specs.CyclicCode.{unity, isCode}
+use Rattle.spec_word.specs.CyclicCode.{unity}
 use Rattle.spec_range.proofs.Tests.{eq→eqb}
 use Rattle.spec_range.proofs.Fold.{fold-cong, fold-op, fold-head, fold-unit, interchange}
 use Rattle.spec_range.proofs.Table.{table-at, all-at, all-of}
@@ -206,23 +206,15 @@ module _ (F : FieldOps) (d : ℕ) (g : ℕ → ℕ) where
 
     -- ---- the words that g divides
 
-    zero-divided : (k : ℕ) (w : ℕ → ℕ) → T (allZero d (remainder F d g k w)) → Divided k w
-    unfolding allZero
-    zero-divided k w t i l =
+    pub divided-of : (k : ℕ) (w : ℕ → ℕ) → T (divides F d g k w) → Divided k w
+    unfolding divides allZero
+    divided-of k w t i l =
         sym (remainder-at k w i l)
         ∙ eqb→eq (coefficients (remainder F d g k w) i) 0 (all-at d (λ i. eqb (coefficients (remainder F d g k w) i) 0) t i l)
 
-    pub divided-of : (k : ℕ) (w : ℕ → ℕ) → T (divides F d g k w) → Divided k w
-    unfolding divides
-    divided-of k w t = zero-divided k w t
-
-    pub code-divided : (n : ℕ) (w : ℕ → ℕ) → T (isCode F n d g w) → Divided n w
-    unfolding isCode
-    code-divided n w t = zero-divided n w t
-
-    pub divided-code : (n : ℕ) (w : ℕ → ℕ) → Divided n w → T (isCode F n d g w)
-    unfolding isCode allZero
-    divided-code n w h = all-of d (λ i. eqb (coefficients (remainder F d g n w) i) 0) (λ i l. eq→eqb (remainder-at n w i l ∙ h i l))
+    pub divides-of : (n : ℕ) (w : ℕ → ℕ) → Divided n w → T (divides F d g n w)
+    unfolding divides allZero
+    divides-of n w h = all-of d (λ i. eqb (coefficients (remainder F d g n w) i) 0) (λ i l. eq→eqb (remainder-at n w i l ∙ h i l))
 
     pub divided-add : (k : ℕ) (w v : ℕ → ℕ) → Divided k w → Divided k v → Divided k (λ j. w j ⊕ v j)
     divided-add k w v hw hv i l = remainder-add k w v i ∙ ap₂ _⊕_ (hw i l) (hv i l) ∙ add-zero 0

@@ -10,8 +10,8 @@ use lib.Seq.{ext-getD}
 use Rattle.spec_range.specs.Table.{table}
 use Rattle.spec_range.proofs.Table.{table-length, table-at}
 use Rattle.spec_field.specs.Field.{FieldOps, FieldLaws}
-use Rattle.spec_word.specs.Division.{coefficients, reduce, remainder, quotient}
-use Rattle.spec_word.specs.CyclicCode.{Generator, isCode}
+use Rattle.spec_word.specs.Division.{coefficients, reduce, remainder, quotient, divides}
+use Rattle.spec_word.specs.CyclicCode.{Generator}
 use Rattle.spec_word.proofs.Sums.{Symbols}
 use Rattle.spec_word.proofs.Division as D
 use Rattle.spec_word.proofs.Quotient as Q
@@ -72,19 +72,19 @@ module _ (F : FieldOps) (laws : FieldLaws F) (n d : ℕ) (g : ℕ → ℕ) (G : 
   same-remainder : (w v : ℕ → ℕ) → ((i : ℕ) → i < d → D.remainderAt F d g n w i ≡ D.remainderAt F d g n v i) → remainder F d g n w ≡ remainder F d g n v
   same-remainder w v same = remainder-is w (length-remainder n v) (λ i l. same i l ∙ sym (D.remainder-at F d g laws n v i l))
 
-  pub equal-remainders : (w v : ℕ → ℕ) → T (isCode F n d g (λ j. w j ⊕ v j)) → remainder F d g n w ≡ remainder F d g n v
-  equal-remainders w v t = same-remainder w v (D.same-remainder F d g laws n w v (D.code-divided F d g laws n (λ j. w j ⊕ v j) t))
+  pub equal-remainders : (w v : ℕ → ℕ) → T (divides F d g n (λ j. w j ⊕ v j)) → remainder F d g n w ≡ remainder F d g n v
+  equal-remainders w v t = same-remainder w v (D.same-remainder F d g laws n w v (D.divided-of F d g laws n (λ j. w j ⊕ v j) t))
 
-  pub difference-of-equal : (w v : ℕ → ℕ) → remainder F d g n w ≡ remainder F d g n v → T (isCode F n d g (λ j. w j ⊕ v j))
+  pub difference-of-equal : (w v : ℕ → ℕ) → remainder F d g n w ≡ remainder F d g n v → T (divides F d g n (λ j. w j ⊕ v j))
   difference-of-equal w v e =
-      D.divided-code F d g laws n (λ j. w j ⊕ v j) (D.divided-difference F d g laws n w v (λ i l.
+      D.divides-of F d g laws n (λ j. w j ⊕ v j) (D.divided-difference F d g laws n w v (λ i l.
       sym (D.remainder-at F d g laws n w i l) ∙ ap (λ (R : List ℕ). coefficients R i) e ∙ D.remainder-at F d g laws n v i l))
 
   -- with a code word added it stays
-  pub remainder-added : (w v : ℕ → ℕ) → T (isCode F n d g v) → remainder F d g n (λ j. w j ⊕ v j) ≡ remainder F d g n w
+  pub remainder-added : (w v : ℕ → ℕ) → T (divides F d g n v) → remainder F d g n (λ j. w j ⊕ v j) ≡ remainder F d g n w
   remainder-added w v t =
       same-remainder (λ j. w j ⊕ v j) w (λ i l.
-      D.remainder-add F d g laws n w v i ∙ ap (D.remainderAt F d g n w i ⊕_) (D.code-divided F d g laws n v t i l) ∙ laws .add-zero _)
+      D.remainder-add F d g laws n w v i ∙ ap (D.remainderAt F d g n w i ⊕_) (D.divided-of F d g laws n v t i l) ∙ laws .add-zero _)
 
   -- a word's places below n are all that counts
   pub remainder-same : (w v : ℕ → ℕ) → ((j : ℕ) → j < n → w j ≡ v j) → remainder F d g n w ≡ remainder F d g n v
@@ -92,10 +92,10 @@ module _ (F : FieldOps) (laws : FieldLaws F) (n d : ℕ) (g : ℕ → ℕ) (G : 
 
   -- ---- the remainder zero
 
-  pub code-remainder : (w : ℕ → ℕ) → T (isCode F n d g w) → remainder F d g n w ≡ table d (λ i. 0)
-  code-remainder w t = remainder-is w (table-length d (λ i. 0)) (λ i l. D.code-divided F d g laws n w t i l ∙ sym (table-at d (λ i. 0) l))
+  pub code-remainder : (w : ℕ → ℕ) → T (divides F d g n w) → remainder F d g n w ≡ table d (λ i. 0)
+  code-remainder w t = remainder-is w (table-length d (λ i. 0)) (λ i l. D.divided-of F d g laws n w t i l ∙ sym (table-at d (λ i. 0) l))
 
-  pub code-of-zero : (w : ℕ → ℕ) → remainder F d g n w ≡ table d (λ i. 0) → T (isCode F n d g w)
+  pub code-of-zero : (w : ℕ → ℕ) → remainder F d g n w ≡ table d (λ i. 0) → T (divides F d g n w)
   code-of-zero w e =
-      D.divided-code F d g laws n w (λ i l.
+      D.divides-of F d g laws n w (λ i l.
       sym (D.remainder-at F d g laws n w i l) ∙ ap (λ (R : List ℕ). coefficients R i) e ∙ table-at d (λ i. 0) l)

@@ -1,11 +1,11 @@
 -- SCOPE 3.7: The cyclic code of length n that a generator g makes, g a function from exponents to symbols.
 -- Assumes nothing.
 use mathlib.Core.Path.{_≡_}
-use mathlib.Core.Bool.{Bool, cond, _||_}
+use mathlib.Core.Bool.{cond, _||_}
 use Prim.Native.Nat.{ℕ, suc, _<_}
 use lib.Dec.{T, eqb}
 use Rattle.spec_field.specs.Field.{FieldOps}
-use Rattle.spec_word.specs.Division.{allZero, remainder, divides}
+use Rattle.spec_word.specs.Division.{divides}
 
 -- SCOPE 3.7: x^n − 1, which is x^n + 1
 unfoldable pub unity : ℕ → ℕ → ℕ
@@ -19,7 +19,3 @@ pub record Generator (F : FieldOps) (n d : ℕ) (g : ℕ → ℕ) : Type 0 where
   pub monic : g d ≡ 1
   pub above : (i : ℕ) → d < i → g i ≡ 0
   pub divides-unity : T (divides F d g (suc n) (unity n))
-
--- SCOPE 4.4: a word is a code word: all d symbols of its remainder by g are zero
-unfoldable pub isCode : FieldOps → ℕ → ℕ → (ℕ → ℕ) → (ℕ → ℕ) → Bool
-isCode F n d g w = let R = remainder F d g n w in allZero d R

@@ -43,6 +43,6 @@ module _ (F : FieldOps) (d : ℕ) (g : ℕ → ℕ) where
   quotient zero w = []
   quotient (suc k) w = coefficients (remainder k (λ j. w (suc j))) (pred d) ∷ quotient k (λ j. w (suc j))
 
-  -- SCOPE 3.7: g divides the polynomial of k coefficients: the remainder is zero
+  -- SCOPE 3.7, 4.4: g divides the polynomial of k coefficients: all d symbols of its remainder are zero
   unfoldable pub divides : ℕ → (ℕ → ℕ) → Bool
   divides k w = let R = remainder k w in allZero d R

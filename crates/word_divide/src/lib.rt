@@ -1,21 +1,19 @@
 // Division by a generator whose multiples stand in a table. The remainder so far is a window of d places in the word itself, which moves down by one
 // place a step; what is above the window is not read again.
 ghost use mathlib.Core.Path.{_≡_};
-ghost use Prim.Native.Nat.{suc, _+_, _*_, _≤_, _<_};
+ghost use Prim.Native.Nat.{_+_, _*_, _≤_, _<_};
 ghost use lib.ListN.{length};
-ghost use Rattle.spec_field.specs.Symbols.{gf};
-ghost use Rattle.spec_word.specs.Division.{divides};
 ghost use Rattle.spec_word.specs.CyclicCode.{unity};
 ghost use Rattle.sizes.specs.Blocks.{span, stride};
 ghost use Rattle.word_array.specs.Stored.{place, Sizes, Stored};
 ghost use Rattle.word_table.specs.Multiples.{wordOf, Multiples};
 ghost use Rattle.word_table.specs.Window.{Window};
-ghost use Rattle.word_divide.specs.Window.{Dividend, AddedAt, DividedBy};
+ghost use Rattle.word_divide.specs.Window.{Dividend, AddedAt, Remains, DividedBy};
 use sizes::BLOCK;
 use sizes::SPAN;
 use sizes::STRIDE;
 
-// Room for the longest word's division, and for its quotient. Only the lengths matter: what is read is written first.
+// Buffers for the longest word's division, and for its quotient. Only the lengths matter: what is read is written first.
 pub fn room() -> [u8; STRIDE]
     ensures { λ r. ⌜ 512 ≡ length r ⌝ }
 {
@@ -29,13 +27,13 @@ pub fn quotient_room() -> [u8; SPAN]
 }
 
 // The same for words of one block: to clear more costs time.
-fn short_room() -> [u8; 2 * BLOCK]
+pub fn short_room() -> [u8; 2 * BLOCK]
     ensures { λ r. ⌜ 128 ≡ length r ⌝ }
 {
     [0; 2 * BLOCK]
 }
 
-fn short_quotient_room() -> [u8; BLOCK]
+pub fn short_quotient_room() -> [u8; BLOCK]
     ensures { λ r. ⌜ 64 ≡ length r ⌝ }
 {
     [0; BLOCK]
@@ -93,8 +91,8 @@ fn copy(n: usize, w: &[u8], v: &mut [u8])
     }
 }
 
-// The division of the n coefficients of w by the table's word g, of degree d, in lent rooms: the message of a code word, and the remainder that tells a
-// code word.
+// The division of the n coefficients of w by the table's word g, of degree d: the remainder in the first d places of v, and the quotient, which is the message
+// of a code word.
 pub fn divide(p: u8, n: usize, d: usize, t: &[u8], w: &[u8], v: &mut [u8], quotient: &mut [u8])
     requires { ⌜ Sizes p n × (1 ≤ d) × (d < n) × (n ≤ length (now w)) × Stored p n (now w) × Multiples (stride n) p n (now t)
         × (n + span n ≤ length (now v)) × (n ≤ length (now quotient)) ⌝ }
@@ -104,37 +102,19 @@ pub fn divide(p: u8, n: usize, d: usize, t: &[u8], w: &[u8], v: &mut [u8], quoti
     divide_in(p, n, d, n, t, v, quotient);
 }
 
-// Whether the remainder is zero, which is all that the test for a code word asks, with the rooms lent.
-fn divides_in(
-    p: u8,
-    n: usize,
-    d: usize,
-    t: &[u8],
-    w: &[u8],
-    v: &mut [u8],
-    quotient: &mut [u8],
-) -> bool
+// The remainder of the n coefficients of w by the table's word g, of degree d: the first d places of v. The quotient is left in a buffer of its own.
+pub fn remainder(p: u8, n: usize, d: usize, t: &[u8], w: &[u8], v: &mut [u8])
     requires { ⌜ Sizes p n × (1 ≤ d) × (d < n) × (n ≤ length (now w)) × Stored p n (now w) × Multiples (stride n) p n (now t)
-        × (n + span n ≤ length (now v)) × (n ≤ length (now quotient)) ⌝ }
-    ensures { λ r. ⌜ r ≡ divides (gf p) d (wordOf (stride n) n (now (t .entry))) n (place (now (w .entry))) ⌝ }
-{
-    divide(p, n, d, t, w, v, quotient);
-    word_array::is_zero(d, v)
-}
-
-// Whether the table's word g, of degree d, divides the n coefficients of w.
-pub fn divides(p: u8, n: usize, d: usize, t: &[u8], w: &[u8]) -> bool
-    requires { ⌜ Sizes p n × (1 ≤ d) × (d < n) × (n ≤ length (now w)) × Stored p n (now w) × Multiples (stride n) p n (now t) ⌝ }
-    ensures { λ r. ⌜ r ≡ divides (gf p) d (wordOf (stride n) n (now (t .entry))) n (place (now (w .entry))) ⌝ }
+        × (n + span n ≤ length (now v)) ⌝ }
+    ensures { λ _. ⌜ Remains p n d (wordOf (stride n) n (now (t .entry))) (place (now (w .entry))) (now (v .exit)) ⌝ }
 {
     if n < BLOCK {
-        let mut v = short_room();
         let mut quotient = short_quotient_room();
-        return divides_in(p, n, d, t, w, &mut v, &mut quotient);
+        divide(p, n, d, t, w, v, &mut quotient);
+        return;
     }
-    let mut v = room();
     let mut quotient = quotient_room();
-    divides_in(p, n, d, t, w, &mut v, &mut quotient)
+    divide(p, n, d, t, w, v, &mut quotient);
 }
 
 // Writes x^n - 1.
@@ -151,27 +131,11 @@ fn put_unity(n: usize, v: &mut [u8])
     v[n] = 1;
 }
 
-// Whether the table's word g, of degree d, divides x^n - 1, with the rooms lent.
-fn divides_unity_in(p: u8, n: usize, d: usize, t: &[u8], v: &mut [u8], quotient: &mut [u8]) -> bool
+// The division of x^n - 1 by the table's word g, of degree d.
+pub fn divide_unity(p: u8, n: usize, d: usize, t: &[u8], v: &mut [u8], quotient: &mut [u8])
     requires { ⌜ Sizes p n × (1 ≤ d) × (d < n) × Multiples (stride n) p n (now t) × (n + span n ≤ length (now v)) × (n ≤ length (now quotient)) ⌝ }
-    ensures { λ r. ⌜ r ≡ divides (gf p) d (wordOf (stride n) n (now (t .entry))) (suc n) (unity n) ⌝ }
+    ensures { λ _. ⌜ DividedBy p (n + 1) d (wordOf (stride n) n (now (t .entry))) (unity n) (now (quotient .exit)) (now (v .exit)) ⌝ }
 {
     put_unity(n, v);
     divide_in(p, n, d, n + 1, t, v, quotient);
-    word_array::is_zero(d, v)
-}
-
-// Whether the table's word g, of degree d, divides x^n - 1.
-pub fn divides_unity(p: u8, n: usize, d: usize, t: &[u8]) -> bool
-    requires { ⌜ Sizes p n × (1 ≤ d) × (d < n) × Multiples (stride n) p n (now t) ⌝ }
-    ensures { λ r. ⌜ r ≡ divides (gf p) d (wordOf (stride n) n (now (t .entry))) (suc n) (unity n) ⌝ }
-{
-    if n < BLOCK {
-        let mut v = short_room();
-        let mut quotient = short_quotient_room();
-        return divides_unity_in(p, n, d, t, &mut v, &mut quotient);
-    }
-    let mut v = room();
-    let mut quotient = quotient_room();
-    divides_unity_in(p, n, d, t, &mut v, &mut quotient)
 }
