@@ -18,11 +18,12 @@ use Rattle.spec_range.proofs.Loop.{padded-at}
 use Rattle.spec_field.specs.Field.{FieldOps}
 use Rattle.spec_field.specs.Symbols.{gf}
 use Rattle.spec_word.specs.Word.{at}
-use Rattle.spec_word.specs.Division.{allZero, divides}
+use Rattle.spec_word.specs.Division.{allZero}
 use Rattle.spec_word.proofs.Place.{at-lt}
 use Rattle.sizes.specs.Blocks.{stride}
 use Rattle.word_array.specs.Stored.{place, Stored}
 use Rattle.word_table.specs.Multiples.{wordOf}
+use Rattle.word_divide.specs.Window.{Remains}
 use Rattle.spec_book.specs.Book.{Book, isCodeWord}
 use Rattle.spec_book.specs.Layout.{symbolDigits, fieldOf, bookOf}
 use Rattle.spec_book.specs.Conditions.{refusal}
@@ -37,7 +38,7 @@ use Rattle.spec_decoding.proofs.Empty.{empty-zero}
 use Rattle.decode_rounds.specs.Rounds.{listed, made, stepOf, Stepped}
 use Rattle.decode_rounds.specs.declared.Step.{Step}
 use Rattle.decode_rounds.specs.declared.Step.the-variants.{Empty}
-use Rattle.book.proofs.Described.{at-listed, code-tested}
+use Rattle.book.proofs.Described.{at-listed, code-tabulated}
 
 pub params-fillable : (bytes : List ℕ) (c : Params) → Describes bytes c → Fillable bytes (c .p) (c .n) (c .duals)
 unfolding bookOf
@@ -127,10 +128,11 @@ module _ (bytes : List ℕ) (make : (ℕ → ℕ) → List ℕ) (c : Params) (w 
   round-empty s p =
       stepped bytes (d .accepted) make w word m v w′ made-matrix made-corrections made-word true _ s (rw (d .n-is) at p) refl
 
-  -- it is not, and the new word was tested
-  pub round-tested : {t : List ℕ} → Tabulated bytes (c .p) (c .n) t → {s : Step}
-      → s ≡ stepOf false (divides (gf (c .p)) (c .degree) (wordOf (stride (c .n)) (c .n) t) (c .n) (place w′)) → allZero (c .n) v ≡ false
+  -- it is not, and the new word was divided: its remainder is left in `rest`
+  pub round-tested : {t rest : List ℕ} → Tabulated bytes (c .p) (c .n) t
+      → Remains (c .p) (c .n) (c .degree) (wordOf (stride (c .n)) (c .n) t) (place w′) rest
+      → {s : Step} → s ≡ stepOf false (allZero (c .degree) rest) → allZero (c .n) v ≡ false
       → Stepped bytes make w (record { step = s; word = w′ }) m
-  round-tested ht s p =
+  round-tested ht left s p =
       stepped bytes (d .accepted) make w word m v w′ made-matrix made-corrections made-word false _ s
-      (rw (d .n-is) at p) (sym (code-tested bytes c d ht w′ (λ j l. sym (at-lt (c .n) w′ l))))
+      (rw (d .n-is) at p) (sym (code-tabulated bytes c d ht w′ (λ j l. sym (at-lt (c .n) w′ l)) left))

@@ -22,14 +22,14 @@ slice-aggregate-fill c = search needs
 
 fill-requires : tie.Need-fill-requires
 fill-requires c κs =
-    let h = c .before .before .before .before .before .pre in
+    let h = c .before .before .before .before .before .before .pre in
     let ok = params-fillable _ _ (h .prepared .describes) in
     (filling (h .bytes) (h .prepared .terms-are) (search needs) (h .word) (h .size), whole-steps ok, whole-few ok)
 
 corrections-requires : tie.Need-corrections-requires
 corrections-requires c κs =
     let fill = c .before .before .before in
-    let h = fill .before .before .before .before .before .before .pre in
+    let h = fill .before .before .before .before .before .before .before .pre in
     let d = h .prepared .describes in
     let made = fill .fill .ensures _ (params-fillable _ _ d) (h .prepared .terms-are) in
     (params-sizes _ _ d, params-matrix _ _ d (ap length made ∙ matrix-length _ _ _ _))
@@ -42,7 +42,7 @@ slice-aggregate-add-2 c = search needs
 
 add-requires : tie.Need-add-requires
 add-requires c κs =
-    let high = params-sizes _ _ (c .before .before .before .before .before .before .before .before .before .before .before .before .pre .prepared .describes) .n-high in
+    let high = params-sizes _ _ (c .before .before .before .before .before .before .before .before .before .before .before .before .before .pre .prepared .describes) .n-high in
     (high, search (needs, high), search (needs, high))
 
 slice-aggregate-is-zero : tie.Need-slice-aggregate-is-zero
@@ -50,7 +50,7 @@ slice-aggregate-is-zero c = search needs
 
 is-zero-requires : tie.Need-is-zero-requires
 is-zero-requires c κs =
-    let high = params-sizes _ _ (c .before .before .before .before .before .before .before .before .before .before .before .before .before .before .pre .prepared .describes) .n-high in
+    let high = params-sizes _ _ (c .before .before .before .before .before .before .before .before .before .before .before .before .before .before .before .pre .prepared .describes) .n-high in
     (high, search (needs, high))
 
 same-length : tie.Need-same-length
@@ -62,18 +62,18 @@ returns c bytes h =
     let made = add .before .before .before in
     let fill = made .before .before .before .before in
     let d = h .describes in
-    round-empty bytes _ _ _ d (fill .before .before .before .before .before .before .pre .word) _ _ _ (fill .fill .ensures _ (params-fillable _ _ d) (h .terms-are))
+    round-empty bytes _ _ _ d (fill .before .before .before .before .before .before .before .pre .word) _ _ _ (fill .fill .ensures _ (params-fillable _ _ d) (h .terms-are))
     (made .corrections .ensures) (add .add .ensures) refl (sym (c .before .is-zero .ensures) ∙ c .if1 .taken)
 
-slice-aggregate-divides : tie.Need-slice-aggregate-divides
-slice-aggregate-divides c = search needs
+slice-aggregate-remainder : tie.Need-slice-aggregate-remainder
+slice-aggregate-remainder c = search needs
 
-divides-requires : tie.Need-divides-requires
-divides-requires c κs =
-    let add = c .before .before .before .before in
+remainder-requires : tie.Need-remainder-requires
+remainder-requires c κs =
+    let add = c .before .before .before .before .before in
     let made = add .before .before .before in
     let fill = made .before .before .before .before in
-    let pre = fill .before .before .before .before .before .before .pre in
+    let pre = fill .before .before .before .before .before .before .before .pre in
     let h = pre .prepared in
     let d = h .describes in
     let s = params-sizes _ _ d in
@@ -85,7 +85,16 @@ divides-requires c κs =
       search (needs, s .n-high),
       record { symbol = λ j l. rw (d .p-is) (stored .symbol j (omega (arith, s .n-high))) },
       h .table-is .multiples,
+      pre .long,
     )
+
+is-zero-requires-2 : tie.Need-is-zero-requires-2
+is-zero-requires-2 c κs =
+    let pre = c .before .before .before .before .before .before .before .before .before .before .before .before .before .before .before .before .before .before .before .before .before .before .before .pre in
+    let d = pre .prepared .describes in
+    let high = degree-high _ _ d in
+    let word = params-sizes _ _ d .n-high in
+    (omega (arith, high, word), search (needs, high, pre .long))
 
 changed-requires : tie.Need-changed-requires
 changed-requires c κs = search needs
@@ -93,16 +102,20 @@ changed-requires c κs = search needs
 same-length-2 : tie.Need-same-length-2
 same-length-2 c = search needs
 
+same-length-3 : tie.Need-same-length-3
+same-length-3 c = search needs
+
 returns-2 : tie.Need-returns-2
 returns-2 c bytes h =
-    let tested = c .before .before .before in
+    let divided = c .before .before .before .before .before in
+    let tested = divided .before .before .before in
     let add = tested .before .before .before in
     let made = add .before .before .before in
     let fill = made .before .before .before .before in
     let d = h .describes in
-    round-tested bytes _ _ _ d (fill .before .before .before .before .before .before .pre .word) _ _ _ (fill .fill .ensures _ (params-fillable _ _ d) (h .terms-are))
-    (made .corrections .ensures) (add .add .ensures) (h .table-is) (c .changed .ensures ∙ ap (stepOf false) (c .before .divides .ensures))
-    (sym (tested .before .is-zero .ensures) ∙ tested .if1 .left)
+    round-tested bytes _ _ _ d (fill .before .before .before .before .before .before .before .pre .word) _ _ _ (fill .fill .ensures _ (params-fillable _ _ d) (h .terms-are))
+    (made .corrections .ensures) (add .add .ensures) (h .table-is) (divided .remainder .ensures)
+    (c .changed .ensures ∙ ap (stepOf false) (c .before .is-zero2 .ensures)) (sym (tested .before .is-zero .ensures) ∙ tested .if1 .left)
 
 pub round-spec : {M : Type 1} → statement M
 round-spec =
@@ -118,8 +131,10 @@ round-spec =
     is-zero-requires
     same-length
     returns
-    slice-aggregate-divides
-    divides-requires
+    slice-aggregate-remainder
+    remainder-requires
+    is-zero-requires-2
     changed-requires
     same-length-2
+    same-length-3
     returns-2)
