@@ -40,14 +40,16 @@ run-requires c κs =
     let asked = looked .refusal .ensures in
     let q = looked .before .order .ensures in
     let sized = looked .before .before .exact .ensures in
-    let z = c .before .before .if1 .left in (
-      d,
-      h .1,
-      h .2,
-      le-of-eq (sym (input-size _ _ d (a .received .now) (looked .before .before .exact .result) asked q z)),
-      input-stored _ _ d (a .received .now) (looked .before .before .exact .result) asked q z,
-      exact-sizes (length (a .answer .now)) (a .c .n) (length (a .entries .now)) (2 ^ a .c .p * a .c .n) sized (input _ _ d (a .received .now) (looked .before .before .exact .result) asked q z .sizes) .1,
-    )
+    let z = c .before .before .if1 .left in
+    let i = input _ _ d (a .received .now) (looked .before .before .exact .result) asked q z in
+    record {
+      describes = d;
+      table-is = h .1;
+      terms-room = h .2;
+      long = le-of-eq (sym (input-size _ _ d (a .received .now) (looked .before .before .exact .result) asked q z));
+      word = input-stored _ _ d (a .received .now) (looked .before .before .exact .result) asked q z;
+      size = exact-sizes (length (a .answer .now)) (a .c .n) (length (a .entries .now)) (2 ^ a .c .p * a .c .n) sized (i .sizes) .1;
+    }
 
 slice-aggregate-store : tie.Need-slice-aggregate-store
 slice-aggregate-store c = search needs
