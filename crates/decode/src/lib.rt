@@ -189,7 +189,8 @@ pub fn decode_word(
     let kind = end.kind;
     let made = end.rounds;
     let word = end.word;
-    word_array::store(&word, answer);
-    let changed = word_array::distance(n, &word, received);
+    let reached: &[u8] = &word;
+    word_array::store(reached, &mut answer[..n]);
+    let changed = word_array::distance(n, reached, received);
     Decoded::Answered(kind, made, changed as u8)
 }

@@ -52,14 +52,7 @@ fn changed(zero: bool) -> Step
 }
 
 // One round: makes the matrix and the update set, subtracts, and divides the new word. Its remainder is left in `rest`.
-fn round(
-    c: Params,
-    t: &[u8],
-    terms: &[u16],
-    w: Word,
-    m: &mut [u16],
-    rest: &mut [u8],
-) -> Rounded
+fn round(c: Params, t: &[u8], terms: &[u16], w: Word, m: &mut [u16], rest: &mut [u8]) -> Rounded
     requires { ⌜ Ready c (now t) (now terms) w (now m) (now rest) ⌝ }
     ensures { λ r. ⌜ ((bytes : List ℕ) → Prepared bytes c (now (t .entry)) (now (terms .entry))
         → Stepped bytes (matrix (fieldOf bytes) (bookOf bytes)) w r (now (m .exit))) ⌝ }
