@@ -3,4 +3,5 @@ pub mod Joining
 pub mod Opening
 pub mod Answering
 pub mod Machine
+pub mod Longest
 pub mod Example

@@ -1,6 +1,6 @@
 -- SCOPE 6: The program as a machine that takes one byte after another: what it has printed so far, and what the end of input adds, from a state.
 -- Assumes nothing.
-use mathlib.Core.Bool.{Bool, cond}
+use mathlib.Core.Bool.{Bool, true, false, cond}
 use mathlib.Core.List.{List, [], _∷_, _++_}
 use Prim.Native.Nat.{ℕ, zero, suc}
 use lib.Dec.{ltb}
@@ -28,6 +28,15 @@ pub record State : Type 0 where
 -- no byte came
 abbrev pub start : State
 start = record { field = []; book = []; count = 0; begun = []; phase = opening }
+
+abbrev pub overIn : Phase → Bool
+overIn opening = false
+overIn answering = false
+overIn ended = true
+
+-- the run has ended: no byte changes the state or prints
+unfoldable pub isOver : State → Bool
+isOver s = overIn (s .phase)
 
 -- ---- the opening: the length field and the codebook
 

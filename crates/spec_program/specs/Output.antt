@@ -48,6 +48,10 @@ mostWords = 1000000
 abbrev pub bookLength : List ℕ → ℕ
 bookLength field = getD field 0 0 + 256 * getD field 1 0
 
+-- SCOPE 6.1, 6.7, 6.12: the most bytes of input that matter: the length field, the longest codebook and the most words, each of the longest
+abbrev pub longestInput : ℕ
+longestInput = 2 + 8454 + mostWords * 255
+
 -- SCOPE 6.8: 1 where the field or the book is short or the length above 8454 (6.7), else the book's own; `got` bytes of the field say `size`
 unfoldable pub openingRefusal : ℕ → ℕ → List ℕ → ℕ
 openingRefusal got size book = unless (leb 2 got && leb size 8454 && leb size (length book)) 1 (refusal book)
