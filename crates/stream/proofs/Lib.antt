@@ -5,3 +5,4 @@ pub mod Openings
 pub mod Taking
 pub mod Rows
 pub mod Passing
+pub mod Turns

@@ -3,3 +3,4 @@ pub mod Part
 pub mod Stepping
 pub mod Opening
 pub mod Serving
+pub mod Turns

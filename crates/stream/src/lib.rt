@@ -9,6 +9,7 @@ ghost use Rattle.stream_text.specs.Printed.{Printed};
 ghost use Rattle.stream.specs.declared.Phase.the-variants.{Opening};
 ghost use Rattle.stream.specs.State.{stateOf, Sized, Sound};
 ghost use Rattle.stream.specs.Stepping.{Rooms, Steps};
+ghost use Rattle.stream.specs.Turns.{turnsLeft};
 use book::Params;
 use sizes::BOOK;
 use sizes::WIDTH;
@@ -150,7 +151,9 @@ fn open_and_serve(
 }
 
 // Whether the run has ended, whatever comes.
-fn is_over(s: State) -> bool {
+fn is_over(s: State) -> bool
+    ensures { λ r. ⌜ r ≡ machine.isOver (stateOf s) ⌝ }
+{
     let phase = s.phase;
     match phase {
         Phase::Opening => false,
@@ -162,6 +165,7 @@ fn is_over(s: State) -> bool {
 // How many turns are left after one: none where the write failed, the read was short or the run has ended.
 pub fn turns_left(left: usize, sent: bool, full: bool, s: State) -> usize
     requires { ⌜ 0 < left ⌝ }
+    ensures { λ r. ⌜ r ≡ turnsLeft left sent full (machine.isOver (stateOf s)) ⌝ }
     ensures { λ r. ⌜ r < left ⌝ }
 {
     if !sent {

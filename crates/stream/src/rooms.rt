@@ -1,6 +1,7 @@
 // The rooms that a run lends to each step. Only the length of a room matters: what is read of it is written first.
 ghost use mathlib.Core.Path.{_≡_};
 ghost use lib.ListN.{length};
+ghost use Rattle.stream.specs.Turns.{pieceSize, turns};
 use sizes::MATRIX;
 use sizes::WIDTH;
 use sizes::Word;
@@ -9,8 +10,6 @@ use sizes::Word;
 pub const PIECE: usize = 100 * sizes::WIDTH;
 // The bytes of its text: at most 6 for each symbol of a line, a begun word's line, and a refusal.
 pub const TEXT: usize = 6 * PIECE + 6 * sizes::WIDTH + 5;
-// Enough turns for all the input that matters.
-pub const TURNS: usize = crate::INPUT / PIECE + 1;
 
 // The longest answer.
 pub fn answer() -> Word
@@ -28,7 +27,7 @@ pub fn matrix() -> [u16; MATRIX]
 
 // A piece.
 pub fn piece() -> [u8; PIECE]
-    ensures { λ r. ⌜ 25500 ≡ length r ⌝ }
+    ensures { λ r. ⌜ pieceSize ≡ length r ⌝ }
 {
     [0; PIECE]
 }
@@ -38,4 +37,11 @@ pub fn text() -> [u8; TEXT]
     ensures { λ r. ⌜ 154535 ≡ length r ⌝ }
 {
     [0; TEXT]
+}
+
+// Enough turns for all the input that matters: after so many full pieces the run has ended (proofs/Turns.antt: turns-over).
+pub fn turns() -> usize
+    ensures { λ r. ⌜ r ≡ turns ⌝ }
+{
+    crate::INPUT / PIECE + 1
 }

@@ -1,6 +1,7 @@
 // The program's reading and writing, which no contract can speak of. What is assumed here, and nothing else: `read_full` gives the next bytes of standard
 // input, as many as it has room for or all that are left, and `write_all` adds its bytes to standard output, or fails.
-// With that a run prints `output` of its input: `step` and `finish` (crate stream) are the machine of spec_program, and `split-output` is about any pieces.
+// With that a run prints `output` of its input: `step`, `turns_left` and `finish` (crate stream) are the machine of spec_program, `turnsText`
+// (stream, specs/Turns.antt) is the loop below over that machine, and by `turns-output` (stream, proofs/Turns.antt) it makes `output` of any input.
 ghost use mathlib.Core.Path.{_≡_};
 ghost use lib.ListN.{length};
 ghost use Rattle.stream.specs.Stepping.{Rooms};
@@ -8,6 +9,7 @@ use libc::STDIN_FILENO;
 use libc::STDOUT_FILENO;
 
 // Takes standard input piece by piece. A short read is the end of input, and a failed write ends the run.
+// The turns never run out before that or the run's own end: after so many full pieces the run has ended (stream, proofs/Turns.antt: turns-over).
 fn pass(
     t: &mut [u8],
     terms: &mut [u16],
@@ -20,7 +22,7 @@ fn pass(
 {
     let mut s = stream::start();
     let mut sent = true;
-    let mut left = stream::rooms::TURNS;
+    let mut left = stream::rooms::turns();
     while 0 < left {
         let got = io::read_full(STDIN_FILENO, input);
         let stepped = stream::step(s, &input[..got], t, terms, answer, entries, output);

@@ -19,10 +19,13 @@ abbrev μ-loop : tie.MeasureT-loop
 start-requires : tie.Need-start-requires Inv-loop μ-loop
 start-requires c κs = search needs
 
+turns-requires : tie.Need-turns-requires Inv-loop μ-loop
+turns-requires c κs = search needs
+
 loop-holds : tie.Need-loop-holds Inv-loop μ-loop
 loop-holds c =
-    let start = c .before .before .before .before .before .before .before in
-    record { sound = c .start .ensures .1 _ _ (start .pre .0) (start .pre .1); rooms = start .pre .2; input-kept = refl; output-kept = refl }
+    let start = c .before .before .before .before .before .before .before .before in
+    record { sound = c .before .start .ensures .1 _ _ (start .pre .0) (start .pre .1); rooms = start .pre .2; input-kept = refl; output-kept = refl }
 
 read-full-requires : tie.Need-read-full-requires Inv-loop μ-loop
 read-full-requires c κs = search needs
@@ -66,7 +69,7 @@ turns-left-requires c κs =
     place .loop-test .taken
 
 loop-less : tie.Need-loop-less Inv-loop μ-loop
-loop-less c = c .turns-left .ensures
+loop-less c = c .turns-left .ensures .1
 
 loop-again : tie.Need-loop-again Inv-loop μ-loop
 loop-again c =
@@ -148,6 +151,7 @@ pass-spec =
     Inv-loop
     μ-loop
     start-requires
+    turns-requires
     loop-holds
     read-full-requires
     slice-reshare-prefix-step
