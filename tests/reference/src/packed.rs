@@ -4,7 +4,8 @@
 //! three bytes 0. Check has L in byte 1; decode has changed in byte 1,
 //! rounds in byte 2 and the letter of the kind in byte 3. A burst has the
 //! same three in a record for each word; a game has the count held in byte 1
-//! and the letter of its answer in byte 3.
+//! and the letter of its answer in byte 3. A field operation, which is exported
+//! for tests alone, has its symbol in byte 1.
 
 use crate::codebook::{self, Codebook};
 use crate::coder;
@@ -117,6 +118,14 @@ pub fn pack_decode(result: Result<Decoded, u8>) -> u32 {
 pub fn pack_game(result: Result<Game, u8>) -> u32 {
     match result {
         Ok(game) => u32::from_le_bytes([0, game.held(), 0, game.letter() as u8]),
+        Err(number) => u32::from(number),
+    }
+}
+
+/// The number for what a field operation returns.
+pub fn pack_symbol(result: Result<u8, u8>) -> u32 {
+    match result {
+        Ok(symbol) => u32::from_le_bytes([0, symbol, 0, 0]),
         Err(number) => u32::from(number),
     }
 }

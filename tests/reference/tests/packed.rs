@@ -1,6 +1,7 @@
 //! The result of a call as one number.
 
 use reference::books::{self, symbols};
+use reference::field;
 use reference::packed;
 
 #[test]
@@ -115,4 +116,11 @@ fn a_game_has_the_count_held_and_a_letter() {
     // Case 10 before and after 333.
     assert_eq!(game(&books::b(), 2, "33 13 13"), (0x5700_0000, [1, 3]));
     assert_eq!(game(&books::b(), 2, "33 31 31"), (0x5700_0000, [3, 1]));
+}
+
+#[test]
+fn a_field_operation_has_its_symbol_in_byte_1() {
+    assert_eq!(packed::pack_symbol(field::product(2, 2, 2)), 0x0000_0300);
+    assert_eq!(packed::pack_symbol(field::sum(6, 63, 0)), 0x0000_3f00);
+    assert_eq!(packed::pack_symbol(field::inverse(2, 0)), 13);
 }
