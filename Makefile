@@ -87,4 +87,4 @@ deb: build
 	@VERSION=$(VERSION) package/deb
 
 clean:
-	rm -rf target tests/*/target tests/fuzz/reference_c/target
+	rm -rf target tests/target
