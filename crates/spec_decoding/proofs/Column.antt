@@ -1,19 +1,23 @@
--- "Each column adds up to L × the weight", and so no entry passes it.
+-- A column of the matrix adds up to L × the weight, and so no entry passes it. In an accepted book this is at most 8160, and at most 2016 in a short one.
 -- Assumes nothing.
 use mathlib.Core.Path.{_≡_, refl, sym, ap, _∙_}
 use mathlib.Core.Bool.{Bool, true, false, cond, _&&_}
-use Prim.Native.Nat.{ℕ, _+_, _*_, _≤_, _<_}
-use native.Mathlib.Nat.{le-trans, le-of-eq}
+use mathlib.Core.List.{List}
+use Prim.Native.Nat.{ℕ, _+_, _*_, _%_, _≤_, _<_}
+use native.Mathlib.Nat.{le-trans, le-of-eq, mul-le-mul}
 use lib.Dec.{eqb}
 use Rattle.spec_range.specs.Fold.{total}
 use Rattle.spec_range.proofs.Tests.{same-eqb}
 use Rattle.spec_range.proofs.Fold.{fold-cong, fold-swap, fold-pick, sums}
-use Rattle.spec_range.proofs.Count.{part-le, total-equal}
+use Rattle.spec_range.proofs.Count.{part-le, total-equal, count-le}
 use Rattle.spec_field.specs.Field.{FieldOps, FieldLaws}
 use Rattle.spec_word.specs.Word.{nonzero, weight}
 use Rattle.spec_book.specs.Book.{Book, Usable}
-use Rattle.spec_decoding.specs.Matrix.{checkValue, entryOf, entry}
-use Rattle.spec_decoding.proofs.Matrix.{check-below}
+use Rattle.spec_book.specs.Layout.{isLong, fieldOf, bookOf}
+use Rattle.spec_book.specs.Conditions.{refusal}
+use Rattle.spec_book.proofs.Known.{book-accepted, book-laws, n-pos, n-high, n-high-short, duals-high}
+use Rattle.spec_decoding.specs.Matrix.{checkValue, entryOf, entry, matrix, cell}
+use Rattle.spec_decoding.proofs.Matrix.{check-below, cell-matrix}
 
 module _ (F : FieldOps) (laws : FieldLaws F) (B : Book) where
   open FieldOps F using (q)
@@ -49,3 +53,39 @@ module _ (F : FieldOps) (laws : FieldLaws F) (B : Book) where
 
   pub entry-le : Usable F B → (r : ℕ → ℕ) {i : ℕ} (j : ℕ) → i < q → entry F B r i j ≤ dual-count * weight n (dual 0)
   entry-le ok r {i} j h = le-trans (part-le q (λ i. entry F B r i j) h) (le-of-eq (column-total ok r j))
+
+-- ---- the columns of an accepted book
+
+module _ (bytes : List ℕ) (e : refusal bytes ≡ 0) where
+  abbrev F : FieldOps
+  F = fieldOf bytes
+
+  abbrev B : Book
+  B = bookOf bytes
+
+  -- no word weighs more than its length, and there are at most 32 dual words
+  column-le : {most : ℕ} → B .n ≤ most → (r : ℕ → ℕ) (j : ℕ) → total (F .q) (λ i. entry F B r i j) ≤ 32 * most
+  unfolding weight
+  column-le fits r j =
+      le-trans (le-of-eq (column-total F (book-laws bytes e) B (book-accepted bytes e) r j))
+      (mul-le-mul (duals-high bytes e) (le-trans (count-le (B .n) (λ j. nonzero (B .dual 0 j))) fits))
+
+  -- SCOPE 4.14: a column adds up to at most 8160
+  pub column-high : (r : ℕ → ℕ) (j : ℕ) → total (F .q) (λ i. entry F B r i j) ≤ 8160
+  column-high r j = column-le (n-high bytes e) r j
+
+  -- SCOPE 4.14: and to at most 2016 in a short book
+  pub column-high-short : isLong bytes ≡ false → (r : ℕ → ℕ) (j : ℕ) → total (F .q) (λ i. entry F B r i j) ≤ 2016
+  column-high-short f r j = column-le (n-high-short bytes e f) r j
+
+  -- its entries are those of the definition
+  column-cells : (r : ℕ → ℕ) (j : ℕ) → total (F .q) (λ i. cell F B (matrix F B r) i j) ≡ total (F .q) (λ i. entry F B r i (j % B .n))
+  column-cells r j = fold-cong _+_ 0 (F .q) (λ i l. cell-matrix F B (λ l h j. 1) r j l (n-pos bytes e))
+
+  -- SCOPE 4.14: a column of the matrix as it is written adds up to at most 8160
+  pub cells-high : (r : ℕ → ℕ) (j : ℕ) → total (F .q) (λ i. cell F B (matrix F B r) i j) ≤ 8160
+  cells-high r j = le-trans (le-of-eq (column-cells r j)) (column-high r (j % B .n))
+
+  -- SCOPE 4.14: and to at most 2016 in a short book
+  pub cells-high-short : isLong bytes ≡ false → (r : ℕ → ℕ) (j : ℕ) → total (F .q) (λ i. cell F B (matrix F B r) i j) ≤ 2016
+  cells-high-short f r j = le-trans (le-of-eq (column-cells r j)) (column-high-short f r (j % B .n))
