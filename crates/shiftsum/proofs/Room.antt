@@ -9,7 +9,7 @@ use Rattle.spec_book.specs.Layout.{fieldOf}
 use Rattle.spec_book.specs.Conditions.{refusal}
 use Rattle.spec_book.proofs.Known.{n-word-length}
 use Rattle.spec_operations.specs.Decoding.{matrixSize, decodeInputRefusal, decodeRefusal, decodeBytes, values, Decodes}
-use Rattle.spec_operations.specs.Packed.{packed, Returns}
+use Rattle.spec_operations.specs.Packed.{resultOf, Returns}
 use Rattle.spec_operations.specs.Burst.{burstInputRefusal, burstRefusal, burstWord}
 use Rattle.book.specs.Opened.{MatrixSize}
 use Rattle.burst.specs.Said.{Answered}
@@ -25,13 +25,13 @@ sized bytes next {size} h = go (refusal bytes) refl
     go (suc k) e = refl
 
 pub decoded-into : (bytes received : List ℕ) (room : ℕ) {size r : ℕ} {word₀ entries₀ word entries : List ℕ} {a : Answer} → MatrixSize bytes size
-    → Decodes (decodeRefusal bytes received room size) (decodeBytes bytes received) word₀ entries₀ a word entries → r ≡ packed a
+    → Decodes (decodeRefusal bytes received room size) (decodeBytes bytes received) word₀ entries₀ a word entries → r ≡ resultOf a
     → Returns (decodeRefusal bytes received room (matrixSize bytes)) (values (decodeBytes bytes received)) (decodeBytes bytes received .answer) word₀ r word
 unfolding decodeRefusal
 decoded-into bytes received room {word₀ = word₀} m h p =
     let number = sized bytes (decodeInputRefusal bytes received room) m in
     record {
-      returns = p ∙ ap packed (h .says ∙ ap (λ (k : ℕ). answer k (values (decodeBytes bytes received))) number);
+      returns = p ∙ ap resultOf (h .says ∙ ap (λ (k : ℕ). answer k (values (decodeBytes bytes received))) number);
       buffer = h .answer-buffer ∙ ap (λ (k : ℕ). left k (decodeBytes bytes received .answer) word₀) number;
     }
 

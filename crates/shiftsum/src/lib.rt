@@ -10,7 +10,7 @@ ghost use Rattle.spec_operations.specs.Remainder.{remainderRefusal, remainderOf
 ghost use Rattle.spec_operations.specs.Decoding.{matrixSize, decodeRefusal, decodeBytes, values};
 ghost use Rattle.spec_operations.specs.Burst.{burstRefusal, burstWord, ReturnsBurst};
 ghost use Rattle.spec_operations.specs.Game.{gameRefusal, gameHeld, gameValues, gameMessages};
-ghost use Rattle.spec_operations.specs.Packed.{packed, Returns};
+ghost use Rattle.spec_operations.specs.Packed.{resultOf, Returns};
 ghost use Rattle.refusals.specs.Said as done;
 ghost use Rattle.book.specs.Params as checks;
 ghost use Rattle.book.specs.Opened.{fewSymbols};
@@ -32,7 +32,7 @@ use sizes::MATRIX;
 
 // The result of a check.
 fn pack_checked(r: Checked) -> u32
-    ensures { λ x. ⌜ x ≡ packed (checks.said r) ⌝ }
+    ensures { λ x. ⌜ x ≡ resultOf (checks.said r) ⌝ }
 {
     match r {
         Checked::Accepted(count) => 256 * (count as u32),
@@ -42,7 +42,7 @@ fn pack_checked(r: Checked) -> u32
 
 // The result of an operation that writes one buffer.
 pub fn pack_done(r: Done) -> u32
-    ensures { λ x. ⌜ x ≡ packed (done.said r) ⌝ }
+    ensures { λ x. ⌜ x ≡ resultOf (done.said r) ⌝ }
 {
     match r {
         Done::Made => 0,
@@ -52,7 +52,7 @@ pub fn pack_done(r: Done) -> u32
 
 // The result of decode.
 fn pack_decoded(r: Decoded) -> u32
-    ensures { λ x. ⌜ x ≡ packed (decodes.said r) ⌝ }
+    ensures { λ x. ⌜ x ≡ resultOf (decodes.said r) ⌝ }
 {
     match r {
         Decoded::Answered(kind, rounds, changed) => {
@@ -66,7 +66,7 @@ fn pack_decoded(r: Decoded) -> u32
 
 // The result of a game: how many words are held, and the letter, W or H.
 fn pack_game(r: Game) -> u32
-    ensures { λ x. ⌜ x ≡ packed (games.said r) ⌝ }
+    ensures { λ x. ⌜ x ≡ resultOf (games.said r) ⌝ }
 {
     match r {
         Game::Whole => 16777216 * (b'W' as u32),
@@ -86,7 +86,7 @@ pub extern "C" fn shiftsum_version() -> u32
 // Check a codebook.
 #[no_mangle]
 pub extern "C" fn shiftsum_check(book: &[u8]) -> u32
-    ensures { λ r. ⌜ r ≡ packed (checkAnswer (now (book .entry))) ⌝ }
+    ensures { λ r. ⌜ r ≡ resultOf (checkAnswer (now (book .entry))) ⌝ }
 {
     pack_checked(book::check(book))
 }

@@ -1,20 +1,20 @@
--- The bytes of a packed result are the refusal number and the values: what a caller reads off it by shifts and masks.
+-- The bytes of a result are the refusal number and the values: what a caller reads off it by shifts and masks.
 -- Assumes nothing.
 use mathlib.Core.Path.{_≡_}
 use Prim.Native.Nat.{ℕ, zero, suc, _/_, _%_, _<_}
 use mathlib.Core.List.{[], _∷_}
 use native.Mathlib.Omega.{arith}
 use Rattle.spec_field.specs.Answer.{Answer, done, refused}
-use Rattle.spec_operations.specs.Packed.{packed}
+use Rattle.spec_operations.specs.Packed.{resultOf}
 use Rattle.spec_operations.specs.Game.{gameLetter, gameValues}
 
--- byte 0, 1, 2 and 3 of a packed answer
+-- byte 0, 1, 2 and 3 of an answer's result
 pub record Bytes (a : Answer) (b₀ b₁ b₂ b₃ : ℕ) : Type 0 where
-  pub number : packed a % 256 ≡ b₀
-  pub first : packed a / 256 % 256 ≡ b₁
-  pub second : packed a / 65536 % 256 ≡ b₂
-  pub third : packed a / 16777216 % 256 ≡ b₃
-  pub small : packed a < 4294967296
+  pub number : resultOf a % 256 ≡ b₀
+  pub first : resultOf a / 256 % 256 ≡ b₁
+  pub second : resultOf a / 65536 % 256 ≡ b₂
+  pub third : resultOf a / 16777216 % 256 ≡ b₃
+  pub small : resultOf a < 4294967296
 
 -- a refusal has its number and no values
 pub refused-bytes : (number : ℕ) → number < 256 → Bytes (refused number) number 0 0 0

@@ -67,7 +67,7 @@ pub record Bursts (number words : ℕ) (word : ℕ → Result) (answers₀ recor
   pub records-list : records ≡ left number (recordsOf words word) records₀
   pub matrix-buffer : entries ≡ left number (lastEntries words word) entries₀
 
--- SCOPE 5.22: what a burst over C returns and leaves, for all inputs: the packed answer, the answers and the bytes of the list of records
+-- SCOPE 5.22: what a burst over C returns and leaves, for all inputs: the result, the answers and the bytes of the list of records
 pub record ReturnsBurst (number words : ℕ) (word : ℕ → Result) (answers₀ records₀ : List ℕ) (r : ℕ) (answers records : List ℕ) : Type 0 where
   pub with-answers : Returns number [] (answersOf words word) answers₀ r answers
   pub with-records : Returns number [] (recordsOf words word) records₀ r records

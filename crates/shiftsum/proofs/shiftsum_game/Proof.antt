@@ -1,7 +1,7 @@
 -- `shiftsum::shiftsum_game` meets its contract.
 -- Assumes nothing.
 use mathlib.Core.Path.{ap, _∙_}
-use Rattle.spec_operations.specs.Packed.{packed}
+use Rattle.spec_operations.specs.Packed.{resultOf}
 use borrow.Author.Needs.{needs}
 use Rattle.shiftsum.proofs.shiftsum_game.Statement.{statement}
 use Rattle.shiftsum.proofs.shiftsum_game.Tie as tie
@@ -18,7 +18,7 @@ same-length c = search needs
 returns : tie.Need-returns
 returns c =
     let h = c .before .before .before .take .ensures in
-    record { returns = c .pack-game .ensures ∙ ap packed (h .says); buffer = h .buffer }
+    record { returns = c .pack-game .ensures ∙ ap resultOf (h .says); buffer = h .buffer }
 
 pub shiftsum-game-spec : {M : Type 1} → statement M
 shiftsum-game-spec = tie.close (tie.spec take-requires pack-game-requires same-length returns)

@@ -8,7 +8,7 @@ use lib.ListN.{length}
 use Rattle.spec_field.specs.Answer.{answer}
 use Rattle.spec_operations.specs.Decoding.{matrixSize}
 use Rattle.spec_operations.specs.Burst.{burstRefusal, burstWord, recordsOf, ReturnsBurst}
-use Rattle.spec_operations.specs.Packed.{packed}
+use Rattle.spec_operations.specs.Packed.{resultOf}
 use Rattle.spec_book.proofs.Inputs.{words-high}
 use Rattle.burst.specs.Said.{listBytes}
 use Rattle.burst.specs.declared.Record.{Record}
@@ -17,10 +17,10 @@ use Rattle.burst.proofs.Listing.{taken, counted-most, listed}
 use Rattle.shiftsum.specs.Made.{Made}
 use Rattle.shiftsum.proofs.shiftsum_burst.Proof.Lists.{upto}
 
--- a number without values, packed
-packed-number : (k : ℕ) → k ≡ packed (answer k [])
-packed-number zero = refl
-packed-number (suc k) = refl
+-- a number without values is its own result
+number-result : (k : ℕ) → k ≡ resultOf (answer k [])
+number-result zero = refl
+number-result (suc k) = refl
 
 module _ (book : List ℕ) (words : ℕ) (received answers : List ℕ) (records : List Record) where
   abbrev number : ℕ
@@ -45,7 +45,7 @@ module _ (book : List ℕ) (words : ℕ) (received answers : List ℕ) (records 
         → ReturnsBurst number words (burstWord book words received) answers (listBytes records) (made .number) last (listBytes zs)
     returns zs are =
         let bursts = said .answered .bursts in
-        let number-is = packed-number (made .number) ∙ ap packed (bursts .says) in
+        let number-is = number-result (made .number) ∙ ap resultOf (bursts .says) in
         record {
           with-answers = record { returns = number-is; buffer = bursts .answers-buffer };
           with-records = record {
