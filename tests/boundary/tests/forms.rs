@@ -7,8 +7,8 @@ use boundary::burst::Burst;
 use boundary::compare::Trial;
 use boundary::draw::{self, Book};
 use boundary::tally::Tally;
-use boundary::{refusal, Operation, OPERATIONS};
-use reference::books::{self, long};
+use boundary::{changed, kind, refusal, rounds, Operation, OPERATIONS};
+use reference::books::{self, long, symbols};
 use reference::form::{Form, FORMS, LONG, SHORT};
 use reference::generate::{self, Random, SHAPES};
 
@@ -113,6 +113,33 @@ fn the_requests_examples() {
     assert_eq!(boundary::check(&one), 0x100);
     numbers.due(&one, 0, "518 bytes, byte 3 is 5");
     numbers.tally.finish(1);
+}
+
+/// The scope's cases of book E, 8.27.
+#[test]
+fn book_e() {
+    let (book, g) = (books::e(), books::generator_e());
+    assert_eq!(boundary::check(&book), 0x100);
+    let made = |operation, input: &[u8]| {
+        let trial = Trial {
+            seed: 0,
+            operation,
+            book: &book,
+            input,
+            held: &[0xa5; 127],
+        };
+        trial.compare()
+    };
+    let coded = made(Operation::Code, &symbols("1000000"));
+    assert_eq!((coded.result, &coded.output), (0, &g));
+    let mut received = g.clone();
+    received[63] ^= 1;
+    received[126] ^= 1;
+    let decoded = made(Operation::Decode, &received);
+    let result = decoded.result;
+    let answered = (kind(result), rounds(result), changed(result));
+    assert_eq!(answered, ('M', 1, 2));
+    assert_eq!(decoded.output, g);
 }
 
 /// Byte 3 as due, the other form's, and neither form's.

@@ -1,4 +1,4 @@
-//! Books A, B and C of the scope, and how a book is written down.
+//! Books A, B, C and E of the scope, and how a book is written down.
 
 use crate::form::Form;
 
@@ -59,6 +59,19 @@ pub fn c_with(d: u8) -> Vec<u8> {
 /// Book C.
 pub fn c() -> Vec<u8> {
     c_with(2)
+}
+
+/// Book E's generator as a word: the quotient of x^127 - 1 by 1 + x + x^7.
+pub fn generator_e() -> Vec<u8> {
+    symbols(
+        "11111110101010011001110111010010 11000110111101101011011001001000
+         11100001011111001010111001101000 1001111000101000011000001000000",
+    )
+}
+
+/// Book E, of the long form: "s 7, p 1, I 3, D 2, dual word 11000001".
+pub fn e() -> Vec<u8> {
+    write(7, 1, &generator_e(), 3, 2, &[symbols("11000001")])
 }
 
 /// The stored codebooks of the long form, by name; `tests/find_long_books.py`

@@ -3,8 +3,9 @@
 
 use std::collections::BTreeSet;
 
-use reference::books::{self, long};
+use reference::books::{self, long, symbols};
 use reference::codebook::{check, Codebook};
+use reference::decode::Kind;
 use reference::form::{Form, FORMS, LONG, SHORT};
 use reference::generate::{self, Random, SHAPES};
 use reference::{burst, coder, decode, matrix, packed, word};
@@ -106,6 +107,30 @@ fn the_requests_examples() {
     // Each with the other's byte 3 is of its length, and has not its kinds.
     assert_eq!(number(&set(&seven, 3, 5)), 2);
     assert_eq!(number(&set(&long("n255p1"), 3, 2)), 2);
+}
+
+/// The scope's cases of book E, 8.27.
+#[test]
+fn book_e() {
+    let (book, g) = (books::e(), books::generator_e());
+    // 1 + x + x^7 times g is x^127 - 1.
+    let mut product = [0; 134];
+    for (j, place) in (0..127).flat_map(|j| [(j, j), (j, j + 1), (j, j + 7)]) {
+        product[place] ^= g[j];
+    }
+    let ones: Vec<usize> = (0..134).filter(|&place| product[place] == 1).collect();
+    assert_eq!(ones, [0, 127]);
+    assert_eq!(packed::check(&book), 0x100);
+    let (mut word, mut entries) = ([0xa5; 127], [0xa5a5; 254]);
+    assert_eq!(coder::code(&book, &symbols("1000000"), &mut word), Ok(()));
+    assert_eq!(word[..], g);
+    word[63] ^= 1;
+    word[126] ^= 1;
+    let mut answer = [0xa5; 127];
+    let decoded = decode::decode(&book, &word, &mut answer, &mut entries).expect("accepted");
+    let decoded = (decoded.kind, decoded.rounds, decoded.changed);
+    assert_eq!(decoded, (Kind::Mended, 1, 2));
+    assert_eq!(answer[..], g);
 }
 
 #[test]
