@@ -17,6 +17,7 @@ use Rattle.sizes.specs.Blocks.{span, stride}
 use Rattle.word_array.specs.Stored.{place, Stored}
 use Rattle.book.specs.declared.Params.{Params}
 use Rattle.book.specs.Params.{Tabulated, Describes}
+use Rattle.book.specs.Opened.{OpenBook}
 use Rattle.matrix_terms.specs.Terms.{dualOf, TermsOf, Kept}
 use Rattle.decode_rounds.specs.Kind.{kindOf}
 use Rattle.decode_rounds.specs.declared.Step.{Step}
@@ -80,7 +81,23 @@ module _ (bytes : List ℕ) where
     pub answer-is : listed (r .word) ≡ x .answer
     pub matrix-is : m ≡ x .entries
 
--- what a round is given: an opened book, whichever bytes hold it, a word of symbols, and room for the matrix and for a remainder
+-- what making a matrix is given: the terms of an opened book, whichever bytes hold it, a word of symbols and room for the matrix
+pub record Countable (c : Params) (terms w m : List ℕ) : Type 0 where
+  pub bytes : List ℕ
+  pub describes : Describes bytes c
+  pub terms-are : TermsOf (stride (c .n)) (c .p) (c .n) (c .duals) (dualOf bytes) terms
+  pub word : Stored (c .p) 255 w
+  pub size : length m ≡ 2 ^ c .p * c .n
+
+-- what a round is given: an opened book, whichever bytes hold it, a word of symbols, a matrix, and room for a remainder
+pub record Begun (c : Params) (t w m rest : List ℕ) : Type 0 where
+  pub bytes : List ℕ
+  pub open-book : OpenBook bytes c t
+  pub word : Stored (c .p) 255 w
+  pub size : length m ≡ 2 ^ c .p * c .n
+  pub long : c .n + span (c .n) ≤ length rest
+
+-- what the rounds are given: the terms of the book too
 pub record Ready (c : Params) (t terms w m rest : List ℕ) : Type 0 where
   pub bytes : List ℕ
   pub prepared : Prepared bytes c t terms

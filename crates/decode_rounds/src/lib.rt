@@ -7,8 +7,12 @@ ghost use lib.ListN.{length};
 ghost use Rattle.spec_book.specs.Layout.{fieldOf, bookOf};
 ghost use Rattle.spec_decoding.specs.Matrix.{matrix};
 ghost use Rattle.spec_decoding.specs.Decode.{decode};
-ghost use Rattle.sizes.specs.Blocks.{span};
-ghost use Rattle.decode_rounds.specs.Rounds.{stepOf, listed, allRounds, Prepared, TermsRoom, Ready, Received, Stepped, Ended};
+ghost use Rattle.spec_word.specs.Word.{at};
+ghost use Rattle.sizes.specs.Blocks.{span, stride};
+ghost use Rattle.book.specs.Params.{Describes};
+ghost use Rattle.book.specs.Opened.{OpenBook};
+ghost use Rattle.matrix_terms.specs.Terms.{dualOf, TermsOf};
+ghost use Rattle.decode_rounds.specs.Rounds.{stepOf, listed, allRounds, Prepared, TermsRoom, Countable, Begun, Ready, Received, Stepped, Ended};
 use book::Params;
 use sizes::BLOCK;
 use sizes::Word;
@@ -51,14 +55,22 @@ fn changed(zero: bool) -> Step
     Step::Going
 }
 
-// One round: makes the matrix and the update set, subtracts, and divides the new word. Its remainder is left in `rest`.
-fn round(c: Params, t: &[u8], terms: &[u16], w: Word, m: &mut [u16], rest: &mut [u8]) -> Rounded
-    requires { ⌜ Ready c (now t) (now terms) w (now m) (now rest) ⌝ }
-    ensures { λ r. ⌜ ((bytes : List ℕ) → Prepared bytes c (now (t .entry)) (now (terms .entry))
-        → Stepped bytes (matrix (fieldOf bytes) (bookOf bytes)) w r (now (m .exit))) ⌝ }
+// Makes the matrix of a word over the dual words whose terms are listed.
+fn make_matrix(c: Params, terms: &[u16], w: Word, m: &mut [u16])
+    requires { ⌜ Countable c (now terms) w (now m) ⌝ }
+    ensures { λ _. ⌜ ((bytes : List ℕ) → Describes bytes c → TermsOf (stride (c .n)) (c .p) (c .n) (c .duals) (dualOf bytes) (now (terms .entry))
+        → now (m .exit) ≡ matrix (fieldOf bytes) (bookOf bytes) (at (c .n) w)) ⌝ }
+{
+    matrix::fill(c.p, c.n, c.duals, terms, &w, m);
+}
+
+// One round, from the matrix of the word: makes the update set, subtracts, and divides the new word. Its remainder is left in `rest`.
+fn round(c: Params, t: &[u8], w: Word, m: &[u16], rest: &mut [u8]) -> Rounded
+    requires { ⌜ Begun c (now t) w (now m) (now rest) ⌝ }
+    ensures { λ r. ⌜ ((bytes : List ℕ) (make : (ℕ → ℕ) → List ℕ) → OpenBook bytes c (now (t .entry)) → now (m .entry) ≡ make (at (c .n) w)
+        → Stepped bytes make w r (now (m .entry))) ⌝ }
 {
     let n = c.n;
-    matrix::fill(c.p, n, c.duals, terms, &w, m);
     let e = decode_update::corrections(c.p, n, c.places, m);
     let next = word_array::add(n, &w, &e);
     if word_array::is_zero(n, &e) {
@@ -72,7 +84,7 @@ fn round(c: Params, t: &[u8], terms: &[u16], w: Word, m: &mut [u16], rest: &mut 
     Rounded { step, word: next }
 }
 
-// The rounds for a received word that is not a code word.
+// The rounds for a received word that is not a code word. Each begins with the matrix of the word so far.
 fn go(c: Params, t: &[u8], terms: &[u16], r: Word, m: &mut [u16], rest: &mut [u8]) -> End
     requires { ⌜ Ready c (now t) (now terms) r (now m) (now rest) ⌝ }
     ensures { λ x. ⌜ ((bytes : List ℕ) → Prepared bytes c (now (t .entry)) (now (terms .entry))
@@ -82,7 +94,8 @@ fn go(c: Params, t: &[u8], terms: &[u16], r: Word, m: &mut [u16], rest: &mut [u8
     let mut w = r;
     let mut made: u8 = 0;
     while made < most {
-        let s = round(c, t, terms, w, m, rest);
+        make_matrix(c, terms, w, m);
+        let s = round(c, t, w, m, rest);
         let step = s.step;
         let next = s.word;
         made += 1;
