@@ -50,7 +50,7 @@ decode-one-requires : tie.Need-decode-one-requires Inv-loop μ-loop
 decode-one-requires c κs =
     let h = c .before .before .before .before .before .before .before .before .before .before .before .before .pre in
     let i = c .before .before .before .before .loop .inv in
-    (h .0, h .1, i .room, h .3, c .before .before .before .loop-test .taken, omega (arith, c .before .decode-one-arg2 .given .1), i .entries-long)
+    (h .0, h .1, i .room, h .3, omega (arith, c .before .before .before .loop-test .taken), omega (arith, c .before .decode-one-arg2 .given .1), i .entries-long)
 
 mul-records : tie.Need-mul-records Inv-loop μ-loop
 mul-records c = search needs
