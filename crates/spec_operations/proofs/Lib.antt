@@ -7,3 +7,5 @@ pub mod Short
 pub mod Decoding
 pub mod Burst
 pub mod Game
+pub mod Twice
+pub mod OverC

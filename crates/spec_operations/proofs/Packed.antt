@@ -1,10 +1,10 @@
 -- The bytes of a result are the refusal number and the values: what a caller reads off it by shifts and masks.
 -- Assumes nothing.
-use mathlib.Core.Path.{_≡_}
+use mathlib.Core.Path.{_≡_, refl}
 use Prim.Native.Nat.{ℕ, zero, suc, _/_, _%_, _<_}
-use mathlib.Core.List.{[], _∷_}
+use mathlib.Core.List.{List, [], _∷_}
 use native.Mathlib.Omega.{arith}
-use Rattle.spec_field.specs.Answer.{Answer, done, refused}
+use Rattle.spec_field.specs.Answer.{Answer, answer, done, refused}
 use Rattle.spec_operations.specs.Packed.{resultOf}
 use Rattle.spec_operations.specs.Game.{gameLetter, gameValues}
 
@@ -19,6 +19,15 @@ pub record Bytes (a : Answer) (b₀ b₁ b₂ b₃ : ℕ) : Type 0 where
 -- a refusal has its number and no values
 pub refused-bytes : (number : ℕ) → number < 256 → Bytes (refused number) number 0 0 0
 refused-bytes number h = record { number = omega arith; first = omega arith; second = omega arith; third = omega arith; small = omega arith }
+
+-- a number without values
+pub number-result : (number : ℕ) → number ≡ resultOf (answer number [])
+number-result zero = refl
+number-result (suc number) = refl
+
+-- the lowest byte where nothing was refused
+pub done-lowest : (values : List ℕ) → resultOf (done values) % 256 ≡ 0
+done-lowest values = omega arith
 
 -- check: the count of dual words
 pub checked-bytes : (count : ℕ) → count < 256 → Bytes (done (count ∷ [])) 0 count 0 0

@@ -12,3 +12,4 @@ pub mod Game
 pub mod GameTrips
 pub mod Trips
 pub mod Short
+pub mod OverC

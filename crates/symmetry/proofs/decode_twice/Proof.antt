@@ -2,7 +2,7 @@
 -- Assumes nothing.
 use borrow.Author.Needs.{needs}
 use lib.ListN.{length}
-use Rattle.symmetry.proofs.Twice.{related}
+use Rattle.spec_operations.proofs.Twice.{related}
 use Rattle.symmetry.proofs.decode_twice.Statement.{statement}
 use Rattle.symmetry.proofs.decode_twice.Tie as tie
 

@@ -1,14 +1,14 @@
 -- What the walk reads of the contract of `burst_made`, and that it gives the contract of `shiftsum_burst`. No other file of the proof names either.
 -- Assumes nothing.
-use mathlib.Core.Path.{_≡_, refl, sym, ap, _∙_, subst}
-use mathlib.Core.List.{List, []}
-use Prim.Native.Nat.{ℕ, zero, suc, _≤_}
+use mathlib.Core.Path.{_≡_, sym, ap, _∙_, subst}
+use mathlib.Core.List.{List}
+use Prim.Native.Nat.{ℕ, _≤_}
 use native.Mathlib.Nat.{le-of-eq}
 use lib.ListN.{length}
-use Rattle.spec_field.specs.Answer.{answer}
 use Rattle.spec_operations.specs.Decoding.{matrixSize}
 use Rattle.spec_operations.specs.Burst.{burstRefusal, burstWord, recordsOf, ReturnsBurst}
 use Rattle.spec_operations.specs.Packed.{resultOf}
+use Rattle.spec_operations.proofs.Packed.{number-result}
 use Rattle.spec_book.proofs.Inputs.{words-high}
 use Rattle.burst.specs.Said.{listBytes}
 use Rattle.burst.specs.declared.Record.{Record}
@@ -16,11 +16,6 @@ use Rattle.burst.specs.declared.Burst.{Burst}
 use Rattle.burst.proofs.Listing.{taken, counted-most, listed}
 use Rattle.shiftsum.specs.Made.{Made}
 use Rattle.shiftsum.proofs.shiftsum_burst.Proof.Lists.{upto}
-
--- a number without values is its own result
-number-result : (k : ℕ) → k ≡ resultOf (answer k [])
-number-result zero = refl
-number-result (suc k) = refl
 
 module _ (book : List ℕ) (words : ℕ) (received answers : List ℕ) (records : List Record) where
   abbrev number : ℕ
