@@ -6,7 +6,7 @@ use Rattle.spec_range.specs.Table.{table}
 use Rattle.spec_field.specs.Symbols.{polynomial, timesX, shiftAdd, product, first, inverse}
 use Rattle.spec_word.specs.Word as W
 use Rattle.spec_word.specs.Division.{before, allZero, reduce, remainder, divides}
-use Rattle.spec_word.specs.CyclicCode.{unity, isCode}
+use Rattle.spec_word.specs.CyclicCode.{unity}
 use Rattle.spec_book.specs.Layout.{width, degreeOf, bookOf}
 use Rattle.spec_book.specs.Conditions.{lengthFits, lengthOk, kindsOk, sizesOk, bodyOk, symbolsOk, generatorOk, limitsOk, dualOk, dualsOk, distinctOk, bookRefusal, refusal}
 use Rattle.spec_coding.specs.Coder.{encode}
@@ -20,5 +20,5 @@ unfolding checks fold table polynomial timesX shiftAdd product W.weight W.produc
 long-accepted = refl also none
 
 pub long-cases-hold : AllHold longCases
-unfolding codes decodes decodesDamaged fold table polynomial timesX shiftAdd product first inverse W.at W.distance W.product before allZero reduce remainder isCode width degreeOf bookOf encode checkSum checkValue entryOf matrixOf cell peak zeroCount peakCount holders inUpdateSet correction emptyUpdateSet corrected run decodeWith
+unfolding codes decodes decodesDamaged fold table polynomial timesX shiftAdd product first inverse W.at W.distance W.product before allZero reduce remainder divides width degreeOf bookOf encode checkSum checkValue entryOf matrixOf cell peak zeroCount peakCount holders inUpdateSet correction emptyUpdateSet corrected run decodeWith
 long-cases-hold = refl also refl also none

@@ -9,7 +9,7 @@ use Rattle.spec_book.specs.Layout.{fieldOf, bookOf}
 use Rattle.spec_coding.specs.Coder.{writtenOut}
 use Rattle.spec_decoding.specs.Decode.{Result}
 use Rattle.spec_decoding.specs.Symmetry.{move}
-use Rattle.spec_operations.specs.Packed.{packed, Returns}
+use Rattle.spec_operations.specs.Packed.{resultOf, Returns}
 use Rattle.spec_operations.specs.Wrote.{Wrote}
 use Rattle.spec_operations.specs.Coding.{codeRefusal, coded, readRefusal, messageOf}
 use Rattle.spec_operations.specs.Remainder.{remainderRefusal, remainderOf, GivenTwo, Sorted}
@@ -18,7 +18,7 @@ use Rattle.spec_operations.specs.Trips.{GivenBack}
 use Rattle.spec_operations.specs.Twice.{Given, Related}
 use Rattle.spec_operations.specs.Short.{GivenWrittenOut}
 use Rattle.spec_operations.specs.OverC.{GivenBackOverC, RelatedOverC, SortedOverC, SameWordOverC}
-use Rattle.spec_operations.proofs.Packed.{packed-number, done-lowest}
+use Rattle.spec_operations.proofs.Packed.{number-result, done-lowest}
 use Rattle.spec_operations.proofs.Trips as trips
 use Rattle.spec_operations.proofs.Twice as twice
 use Rattle.spec_operations.proofs.Short as short
@@ -26,21 +26,21 @@ use Rattle.spec_operations.proofs.Remainder as remainders
 
 -- ---- from the answers a and a′ to the numbers r and r′ that they are packed in
 
-module _ {a a′ : Answer} {r r′ : ℕ} (e : r ≡ packed a) (e′ : r′ ≡ packed a′) where
+module _ {a a′ : Answer} {r r′ : ℕ} (e : r ≡ resultOf a) (e′ : r′ ≡ resultOf a′) where
   back-over-c : {given back : List ℕ} → GivenBack a a′ given back → GivenBackOverC r r′ given back
-  back-over-c h = record { first-done = e ∙ ap packed (h .first-done); second-done = e′ ∙ ap packed (h .second-done); given-back = h .given-back }
+  back-over-c h = record { first-done = e ∙ ap resultOf (h .first-done); second-done = e′ ∙ ap resultOf (h .second-done); given-back = h .given-back }
 
   moved-over-c : {bytes : List ℕ} {t c : ℕ} {v word word′ entries entries′ : List ℕ} → Related bytes t c v a a′ word word′ entries entries′
       → RelatedOverC bytes t c v r r′ word word′
   moved-over-c {bytes} {t} {c} {v} h =
       record {
         not-refused = ap (λ (n : ℕ). n % 256) first ∙ done-lowest (values (h .x));
-        same-number = e′ ∙ ap packed (h .second .answers ∙ ap done same-values) ∙ sym first;
+        same-number = e′ ∙ ap resultOf (h .second .answers ∙ ap done same-values) ∙ sym first;
         moved-answer = h .second .answer-is ∙ h .moved .moved-answer ∙ ap (move (fieldOf bytes) (bookOf bytes .n) t c v) (sym (h .first .answer-is));
       }
     where
-      first : r ≡ packed (done (values (h .x)))
-      first = e ∙ ap packed (h .first .answers)
+      first : r ≡ resultOf (done (values (h .x)))
+      first = e ∙ ap resultOf (h .first .answers)
 
       same-values : values (h .x′) ≡ values (h .x)
       same-values = rw (h .moved .same-kind, h .moved .same-rounds, h .moved .same-changed) refl
@@ -48,8 +48,8 @@ module _ {a a′ : Answer} {r r′ : ℕ} (e : r ≡ packed a) (e′ : r′ ≡ 
   sorted-over-c : {bytes w w′ R R′ : List ℕ} → Sorted bytes w w′ a a′ R R′ → SortedOverC bytes w w′ r r′ R R′
   sorted-over-c h =
       record {
-        first-done = e ∙ ap packed (h .first-done);
-        second-done = e′ ∙ ap packed (h .second-done);
+        first-done = e ∙ ap resultOf (h .first-done);
+        second-done = e′ ∙ ap resultOf (h .second-done);
         sorted = record {
           first-done = refl;
           second-done = refl;
@@ -91,8 +91,8 @@ module _ {bytes f f′ old w old′ w′ : List ℕ} {room room′ r r′ : ℕ}
   same-word given =
       let both = short.same-word (wrote h) (wrote h′) given in
       record {
-        same-number = h .returns ∙ ap packed (both .same-answer) ∙ sym (h′ .returns);
-        same-word = λ z. both .same-word (ap (λ (n : ℕ). answer n []) (packed-number (codeRefusal bytes f room) ∙ sym (h .returns) ∙ z));
+        same-number = h .returns ∙ ap resultOf (both .same-answer) ∙ sym (h′ .returns);
+        same-word = λ z. both .same-word (ap (λ (n : ℕ). answer n []) (number-result (codeRefusal bytes f room) ∙ sym (h .returns) ∙ z));
       }
 
 -- ---- demand 3
