@@ -26,7 +26,7 @@ use Rattle.spec_operations.specs.Wrote.{Wrote}
 use Rattle.spec_operations.proofs.Wrote.{left-refused, left-done}
 use Rattle.spec_book.proofs.Known.{book-sizes, n-word-length}
 use Rattle.book_layout.proofs.Sized.{short-block}
-use Rattle.matrix_terms.specs.Terms.{unlisted}
+use Rattle.matrix_terms.specs.Terms.{unlisted, termsAt, weightIn}
 use Rattle.spec_book.proofs.Inputs.{AcceptedInput, accepted-input}
 use Rattle.book.specs.Params.{Describes}
 use Rattle.book.specs.declared.Params.{Params}
@@ -84,7 +84,7 @@ module _ (bytes : List ℕ) (c : Params) (d : Describes bytes c) where
 -- ---- rooms for terms
 
 -- the room for short books
-pub short-unlisted : (bytes : List ℕ) → isLong bytes ≡ false → {terms : List ℕ} → (2240 ≡ length terms) × (place terms 0 ≡ 0) → Unlisted bytes terms
+pub short-unlisted : (bytes : List ℕ) → isLong bytes ≡ false → {terms : List ℕ} → (2240 ≡ length terms) × (weightIn terms ≡ 0) → Unlisted bytes terms
 short-unlisted bytes f h =
     record {
       long = λ e.
@@ -94,12 +94,12 @@ short-unlisted bytes f h =
     }
 
 -- and that for any
-pub any-unlisted : (bytes : List ℕ) {terms : List ℕ} → (8384 ≡ length terms) × (place terms 0 ≡ 0) → Unlisted bytes terms
+pub any-unlisted : (bytes : List ℕ) {terms : List ℕ} → (8384 ≡ length terms) × (weightIn terms ≡ 0) → Unlisted bytes terms
 any-unlisted bytes h = record { long = λ e. omega (arith, h .0, blocks-high (bookOf bytes .n)); none = h .1 }
 
 pub listed-room : (bytes : List ℕ) {terms : List ℕ} → Unlisted bytes terms → {c : Params} → Describes bytes c → TermsRoom bytes c terms
 listed-room bytes {terms} h {c} d =
-    record { long = subst (λ (n : ℕ). 192 + span n * 32 ≤ length terms) (sym (d .n-is)) (h .long (d .accepted)); kept = unlisted (h .none) }
+    record { long = subst (λ (n : ℕ). termsAt + span n * 32 ≤ length terms) (sym (d .n-is)) (h .long (d .accepted)); kept = unlisted (h .none) }
 
 -- what the test of both sizes tells
 pub exact-sizes : (room n entries size : ℕ) {exact : Bool} → exact ≡ (eqb room n && eqb entries size) → T exact → (room ≡ n) × (entries ≡ size)

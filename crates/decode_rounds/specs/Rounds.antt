@@ -18,7 +18,7 @@ use Rattle.word_array.specs.Stored.{place, Stored}
 use Rattle.book.specs.declared.Params.{Params}
 use Rattle.book.specs.Params.{Tabulated, Describes}
 use Rattle.book.specs.Opened.{OpenBook}
-use Rattle.matrix_terms.specs.Terms.{dualOf, TermsOf, Kept}
+use Rattle.matrix_terms.specs.Terms.{dualOf, TermsOf, Kept, termsAt, weightIn}
 use Rattle.decode_rounds.specs.Kind.{kindOf}
 use Rattle.decode_rounds.specs.declared.Step.{Step}
 use Rattle.decode_rounds.specs.declared.Step.the-variants.{Empty, Reached, Going}
@@ -50,13 +50,13 @@ module _ (bytes : List ℕ) where
 
   -- a room in which the terms of its dual words are listed, or nothing yet
   pub record TermsRoom (c : Params) (terms : List ℕ) : Type 0 where
-    pub long : 192 + span (c .n) * 32 ≤ length terms
+    pub long : termsAt + span (c .n) * 32 ≤ length terms
     pub kept : Kept (stride (c .n)) (c .p) (c .n) (c .duals) (dualOf bytes) terms
 
   -- a room in which nothing is listed yet, and which is large enough if the book is accepted
   pub record Unlisted (terms : List ℕ) : Type 0 where
-    pub long : refusal bytes ≡ 0 → 192 + span (B .n) * 32 ≤ length terms
-    pub none : place terms 0 ≡ 0
+    pub long : refusal bytes ≡ 0 → termsAt + span (B .n) * 32 ≤ length terms
+    pub none : weightIn terms ≡ 0
 
   module _ (make : (ℕ → ℕ) → List ℕ) where
     -- the matrix of the word in an array

@@ -13,7 +13,7 @@ use lib.Pow.{pow-mono}
 use lib.Seq.{getD-set-same, getD-set-other}
 use Rattle.spec_field.specs.Symbols.{timesX}
 use Rattle.word_array.specs.Stored.{place}
-use Rattle.field_powers.specs.Powers.{power, PowersPut}
+use Rattle.field_powers.specs.Powers.{power, PowersPut, powersEnd}
 use Rattle.field_powers.proofs.Reached.{logarithm, logarithm-below, power-logarithm}
 use Rattle.field_powers.proofs.Laws.{power-next, power-below, power-pos, power-one-to-one, power-round}
 
@@ -28,7 +28,7 @@ pub record Logging (p r : ℕ) (w₀ w : List ℕ) (s e : ℕ) : Type 0 where
   pub at : (k : ℕ) → k < e → place w (power p k) ≡ k
 
 -- no exponent is put yet
-pub logging-none : (p r : ℕ) (w : List ℕ) → 192 ≤ length w → Logging p r (set w 0 0) (set w 0 0) 1 0
+pub logging-none : (p r : ℕ) (w : List ℕ) → powersEnd ≤ length w → Logging p r (set w 0 0) (set w 0 0) 1 0
 unfolding power
 logging-none p r w room =
     record {
@@ -49,7 +49,7 @@ round-le {p} r high whole = let h : 2 ^ p ≤ 64 = pow-mono high in omega arith
 pub power-fits : {p : ℕ} → 1 ≤ p → p ≤ 6 → (e : ℕ) → power p e < 64
 power-fits {p} low high e = let h : 2 ^ p ≤ 64 = pow-mono high in let l : power p e < 2 ^ p = power-below p low high e in omega arith
 
-module _ {p r : ℕ} (low : 1 ≤ p) (high : p ≤ 6) (whole : r + 1 ≡ 2 ^ p) (w₀ : List ℕ) (room : 192 ≤ length w₀) where
+module _ {p r : ℕ} (low : 1 ≤ p) (high : p ≤ 6) (whole : r + 1 ≡ 2 ^ p) (w₀ : List ℕ) (room : powersEnd ≤ length w₀) where
   -- one more exponent, put at the place of its power
   pub logging-more : {e s s′ : ℕ} {w : List ℕ} → Logging p r (set w₀ 0 0) w s e → e < r → s′ ≡ timesX p s
       → Logging p r (set w₀ 0 0) (set (set (set w (64 + e) s) (64 + r + e) s) s e) s′ (e + 1)

@@ -12,9 +12,17 @@ unfoldable pub power : ℕ → ℕ → ℕ
 power p zero = 1
 power p (suc e) = timesX p (power p e)
 
--- from place 64 on the room has the powers of x below 2 * (q - 1), and at the place of each nonzero symbol c the e below q - 1 with x ^ e = c
+-- where the powers of x are in a room: behind the logarithms, one for each of up to 64 symbols
+abbrev pub powersAt : ℕ
+powersAt = 64
+
+-- where they end
+abbrev pub powersEnd : ℕ
+powersEnd = 192
+
+-- from `powersAt` on the room has the powers of x below 2 * (q - 1), and at the place of each nonzero symbol c the e below q - 1 with x ^ e = c
 pub record PowersOf (p : ℕ) (room : List ℕ) : Type 0 where
-  pub exp-at : (e : ℕ) → e + 2 < 2 * 2 ^ p → place room (64 + e) ≡ power p e
+  pub exp-at : (e : ℕ) → e + 2 < 2 * 2 ^ p → place room (powersAt + e) ≡ power p e
   pub log-lt : (c : ℕ) → 0 < c → c < 2 ^ p → place room c + 1 < 2 ^ p
   pub log-is : (c : ℕ) → 0 < c → c < 2 ^ p → power p (place room c) ≡ c
 

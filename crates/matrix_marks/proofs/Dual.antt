@@ -21,7 +21,7 @@ use Rattle.word_table.proofs.Tables.{multiplied-at}
 use Rattle.field_powers.specs.Powers.{power}
 use Rattle.field_powers.proofs.Laws.{divided}
 use Rattle.matrix_terms.specs.Count.{placeCounts, dualCounts}
-use Rattle.matrix_terms.specs.Terms.{term, Terms, RowOf}
+use Rattle.matrix_terms.specs.Terms.{term, Terms, RowOf, weightIn}
 use Rattle.matrix_terms.proofs.Digits.{log-of, place-of}
 use Rattle.matrix_marks.specs.Marks.{termCounts}
 
@@ -61,10 +61,10 @@ module _ {stride p n duals l : ℕ} {b : ℕ → ℕ} {terms : List ℕ} (ok : T
             ∙ sym (ap (λ (t : Bool). indicator (not t && divides)) (ne-eqb (b a) 0 z))
 
     -- the terms count what the dual word counts
-    pub terms-count : (k j : ℕ) → termCounts stride p (at n w) (term n terms l) (place terms 0) k j ≡ dualCounts p n b f (power p k) j
+    pub terms-count : (k j : ℕ) → termCounts stride p (at n w) (term n terms l) (weightIn terms) k j ≡ dualCounts p n b f (power p k) j
     unfolding termCounts dualCounts
     terms-count k j =
-        fold-cong _+_ 0 (place terms 0) (λ i a.
+        fold-cong _+_ 0 (weightIn terms) (λ i a.
         ap₂ (λ (a c : ℕ). indicator (eqb (at n w (j + a)) (power p (k + c))))
         (place-of (ok .fits) (row .turns-of) i a) (log-of (ok .fits) (row .turns-of) i a))
         ∙ row .turns-of .places .folds _+_ 0 add-zero (λ a. indicator (eqb (at n w (j + a)) (power p (k + place terms (b a)))))

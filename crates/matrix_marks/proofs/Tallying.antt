@@ -17,7 +17,7 @@ use Rattle.word_table.specs.Multiples.{wordOf, Multiplied}
 use Rattle.word_table.proofs.Rows.{rows-apart}
 use Rattle.word_table.proofs.Tables.{wordOf-period}
 use Rattle.matrix_terms.specs.Count.{dualCounts}
-use Rattle.matrix_terms.specs.Terms.{term, Terms, RowOf, TermsOf}
+use Rattle.matrix_terms.specs.Terms.{term, Terms, RowOf, TermsOf, termsAt, weightIn}
 use Rattle.matrix_terms.proofs.Whole.{RowsFilled, terms-weight}
 use Rattle.matrix_marks.specs.Marks.{termsFrom, termCounts, Turned, Counted, Tallied, Rooms, Countable, Gatherable, Gathered}
 use Rattle.matrix_marks.proofs.Dual.{terms-count}
@@ -58,9 +58,9 @@ module _ {p n duals : ℕ} {terms t v₀ c₀ : List ℕ} (ok : Countable (strid
 
   -- what counting dual word l asks, by the number of blocks that the code has
   pub dual-turned : {v : List ℕ} → span n ≤ length w → length v ≡ length v₀
-      → Turned (128 * x) (64 * x) p n w terms (192 + 64 * x * l) (place terms 0) v c
+      → Turned (128 * x) (64 * x) p n w terms (termsAt + 64 * x * l) (weightIn terms) v c
   dual-turned {v} long kept =
-      subst (λ (x : ℕ). Turned (128 * x) (64 * x) p n w terms (192 + 64 * x * l) (place terms 0) v c) (sym e)
+      subst (λ (x : ℕ). Turned (128 * x) (64 * x) p n w terms (termsAt + 64 * x * l) (weightIn terms) v c) (sym e)
       record {
         sizes = numbers .sizes;
         short = omega (arith, fits);
@@ -81,7 +81,7 @@ module _ {p n duals : ℕ} {terms t v₀ c₀ : List ℕ} (ok : Countable (strid
       }
 
   -- it is counted
-  pub dual-tallied : {c′ : List ℕ} → Counted (64 * x) p n (termCounts (128 * x) p (at n w) (termsFrom terms (192 + 64 * x * l)) (place terms 0)) c c′
+  pub dual-tallied : {c′ : List ℕ} → Counted (64 * x) p n (termCounts (128 * x) p (at n w) (termsFrom terms (termsAt + 64 * x * l)) (weightIn terms)) c c′
       → Tallied (stride n) (span n) p n duals terms (wordOf (stride n) n t) (l + 1) c′
   dual-tallied {c′} count =
       record {
@@ -94,8 +94,8 @@ module _ {p n duals : ℕ} {terms t v₀ c₀ : List ℕ} (ok : Countable (strid
         room = λ k. omega (arith, add .room k, h .room k);
       }
     where
-      add : Counted (span n) p n (termCounts (stride n) p (at n w) (term n terms l) (place terms 0)) c c′
-      add = subst (λ (x : ℕ). Counted (64 * x) p n (termCounts (128 * x) p (at n w) (termsFrom terms (192 + 64 * x * l)) (place terms 0)) c c′) e count
+      add : Counted (span n) p n (termCounts (stride n) p (at n w) (term n terms l) (weightIn terms)) c c′
+      add = subst (λ (x : ℕ). Counted (64 * x) p n (termCounts (128 * x) p (at n w) (termsFrom terms (termsAt + 64 * x * l)) (weightIn terms)) c c′) e count
 
 -- ---- the matrix
 
@@ -116,7 +116,7 @@ module _ {p n duals : ℕ} {terms : List ℕ} {r : ℕ → ℕ} {c m : List ℕ}
 
   -- the gathered rows are those of the matrix
   pub gathered-filled : {b : ℕ → ℕ → ℕ} → TermsOf (stride n) p n duals b terms → Gathered (64 * x) p n terms c m
-      → RowsFilled p n b duals (place terms 0) r m
+      → RowsFilled p n b duals (weightIn terms) r m
   gathered-filled {b} all g =
       let powers = all .numbers .powers in
       record {

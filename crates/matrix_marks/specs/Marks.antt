@@ -11,7 +11,7 @@ use Rattle.word_array.specs.Stored.{place, Sizes}
 use Rattle.word_table.specs.Multiples.{Multiples}
 use Rattle.field_powers.specs.Powers.{power}
 use Rattle.matrix_terms.specs.Count.{dualCounts}
-use Rattle.matrix_terms.specs.Terms.{TermsOf}
+use Rattle.matrix_terms.specs.Terms.{TermsOf, termsAt}
 
 -- the powers of a room
 abbrev pub powersIn : List ℕ → ℕ → ℕ
@@ -72,7 +72,7 @@ pub record Turned (stride span p n : ℕ) (w terms : List ℕ) (from weight : �
   pub power-at : (e : ℕ) → e + 2 < 2 * 2 ^ p → place terms (64 + e) ≡ power p e
   pub word : span ≤ length w
   pub turning : Turning stride p n (termsFrom terms from) weight
-  pub powers-long : 192 ≤ length terms
+  pub powers-long : termsAt ≤ length terms
   pub terms-long : from + weight ≤ length terms
   pub marks-long : stride * (2 * (2 ^ p - 1)) ≤ length v
   pub counts-long : span * (2 ^ p - 1) ≤ length c

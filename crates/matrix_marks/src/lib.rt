@@ -17,6 +17,7 @@ ghost use Rattle.matrix_marks.specs.Marks.{powersIn, Markable, Marked, A
 ghost use Rattle.matrix_marks.specs.Marks.{Countable, Gatherable, Gathered, Rooms};
 use field_powers::POWERS_AT;
 use matrix_terms::TERMS_AT;
+use matrix_terms::WEIGHT_AT;
 use sizes::BLOCK;
 use sizes::FEW_SYMBOLS;
 use sizes::SPAN;
@@ -217,7 +218,7 @@ fn count_duals(
     requires { ⌜ Countable (stride n) (span n) p n duals (now terms) (now t) (now v) (now counts) ⌝ }
     ensures { λ _. ⌜ Tallied (stride n) (span n) p n duals (now (terms .entry)) (wordOf (stride n) n (now (t .entry))) duals (now (counts .exit)) ⌝ }
 {
-    let weight = terms[0] as usize;
+    let weight = terms[WEIGHT_AT] as usize;
     let blocks = sizes::blocks(n);
     let mut w = product_room();
     let mut l = 0;
@@ -265,7 +266,7 @@ fn fill_in(
     word_table::tabulate(p, n, r, 0, &mut t);
     count_duals(p, n, duals, terms, &t, v, counts);
     gather(p, n, sizes::blocks(n), terms, counts, m);
-    matrix_terms::row_zero(p, n, (duals as u16) * terms[0], m);
+    matrix_terms::row_zero(p, n, (duals as u16) * terms[WEIGHT_AT], m);
 }
 
 // Room for the marks of a dual word.

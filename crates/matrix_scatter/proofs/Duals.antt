@@ -21,7 +21,7 @@ use Rattle.word_array.specs.Stored.{place, Sizes}
 use Rattle.word_table.specs.Multiples.{wordOf, Multiplied}
 use Rattle.word_table.proofs.Tables.{wordOf-period, multiplied-at}
 use Rattle.matrix_terms.specs.Count.{raised}
-use Rattle.matrix_terms.specs.Terms.{Terms, term, TermsOf}
+use Rattle.matrix_terms.specs.Terms.{Terms, term, TermsOf, weightIn}
 use Rattle.matrix_terms.proofs.Raised.{raised-at, raised-same, raised-most, Adding, adding-long, adding-more, adding-end}
 use Rattle.matrix_terms.proofs.Whole.{all-le}
 use Rattle.matrix_terms.proofs.Received.{order-le}
@@ -68,9 +68,9 @@ module _ {stride p n duals : ℕ} {terms r counts₀ : List ℕ} (ok : Scatterin
   s = h .numbers .sizes
 
   -- the first l dual words add no more than their terms are
-  duals-le : (l k : ℕ) → total l (dualAdds stride p n terms starts t b k) ≤ l * place terms 0
+  duals-le : (l k : ℕ) → total l (dualAdds stride p n terms starts t b k) ≤ l * weightIn terms
   unfolding dualRows
-  duals-le l k = fold-le l (place terms 0) _ (λ i _. rows-le stride p _ (place terms 0) _ (k / (n + 1)) (k % (n + 1)))
+  duals-le l k = fold-le l (weightIn terms) _ (λ i _. rows-le stride p _ (weightIn terms) _ (k / (n + 1)) (k % (n + 1)))
 
   -- the counters are zero at first
   empty : (k : ℕ) → place counts₀ k ≤ 0
@@ -82,7 +82,7 @@ module _ {stride p n duals : ℕ} {terms r counts₀ : List ℕ} (ok : Scatterin
         → dualRows stride p n terms (startRow n starts) (wordOf stride n t) (b l) l e j ≡ dualRows stride p n terms (symbolRow p terms) (at n r) (b l) l e j
     unfolding dualRows
     rows-read word l e j =
-        ap (λ (f : ℕ → ℕ). rowsWith stride p f (place terms 0) (term n terms l) e j)
+        ap (λ (f : ℕ → ℕ). rowsWith stride p f (weightIn terms) (term n terms l) e j)
         (fun-ext (λ m. start-row st _ (product-symbol s (b l) (wordOf stride n t) m)
         ∙ ap (λ (f : ℕ → ℕ). symbolRow p terms (product (gf p) n (b l) f m)) word))
 
@@ -146,14 +146,14 @@ module _ {stride p n duals : ℕ} {terms r counts₀ : List ℕ} (ok : Scatterin
               log-lt = λ i c. x .log-lt l i d c;
               size = omega (arith, ok .cleared .size, adding-long a);
               room = raised-most counts₀ counts _ (a .added) 8160 64900 empty
-                  (λ k. le-trans (duals-le l k) (le-trans (mul-le-mul-right (place terms 0) (a .within)) (all-le x))) (omega arith);
+                  (λ k. le-trans (duals-le l k) (le-trans (mul-le-mul-right (weightIn terms) (a .within)) (all-le x))) (omega arith);
             }
 
         -- the rows by the offsets are the rows of the product
         rows-same : (k : ℕ) → termsAdd stride l p n cells terms k ≡ dualAdds stride p n terms starts t b k l
         unfolding rowsWith dualRows
         rows-same k =
-            fold-cong _+_ 0 (place terms 0) (λ i c.
+            fold-cong _+_ 0 (weightIn terms) (λ i c.
             let m = term n terms l i % stride + k % (n + 1) in
             ap (λ (x : ℕ). indicator (eqb (x + (2 ^ p - 1 - term n terms l i / stride)) (k / (n + 1))))
             (row-is m (omega (arith, h .numbers .place-lt l i d c, mod-lt k {m = n + 1} (omega arith)))

@@ -18,7 +18,7 @@ use Rattle.sizes.proofs.Lengths.{blocks-high, blocks-fit, shift-is}
 use Rattle.word_array.specs.Stored.{place}
 use Rattle.word_table.proofs.Rows.{rows-apart}
 use Rattle.matrix_terms.specs.Count.{raised}
-use Rattle.matrix_terms.specs.Terms.{term}
+use Rattle.matrix_terms.specs.Terms.{term, termsAt, weightIn}
 use Rattle.matrix_terms.proofs.Raised.{raised-same, raised-most, Adding, adding-long, adding-more, adding-end}
 use Rattle.matrix_scatter.specs.Scatter.{Within, cellAdds, rowAt, rowsWith, termsAdd, Countable}
 use Rattle.matrix_scatter.proofs.Rows.{width-le}
@@ -30,16 +30,16 @@ pub record Parted (stride n l i : ℕ) (terms : List ℕ) (log h : ℕ) : Type 0
   pub place-is : h ≡ term n terms l i % stride
 
 -- as shifts part it
-pub parted : {n r s : ℕ} (l i : ℕ) (terms : List ℕ) → r ≡ blocks n → s ≡ shift n → let t = place terms (192 + 64 * r * l + i) in
+pub parted : {n r s : ℕ} (l i : ℕ) (terms : List ℕ) → r ≡ blocks n → s ≡ shift n → let t = place terms (termsAt + 64 * r * l + i) in
     Fits w16 t → Parted (stride n) n l i terms (t / 2 ^ s) (t - t / 2 ^ s * 2 ^ s % 18446744073709551616)
 parted {n} {r} {s} l i terms e f small =
     record { log-is = ap₂ _/_ same wide; place-is = rest ∙ ap₂ _%_ same wide }
   where
     t : ℕ
-    t = place terms (192 + 64 * r * l + i)
+    t = place terms (termsAt + 64 * r * l + i)
 
     same : t ≡ term n terms l i
-    same = ap (λ (r : ℕ). place terms (192 + 64 * r * l + i)) e
+    same = ap (λ (r : ℕ). place terms (termsAt + 64 * r * l + i)) e
 
     wide : 2 ^ s ≡ stride n
     wide = ap (λ (s : ℕ). 2 ^ s) f ∙ shift-is n
@@ -64,7 +64,7 @@ module _ {size l p n r : ℕ} {cells terms counts : List ℕ} (ok : Countable si
   pub row-small : 64 * r * l ≤ 8192
   row-small = mul-le-mul {n₂ = 256} {m₂ = 32} (omega (arith, e, blocks-high n)) (omega (arith, ok .low))
 
-  pub term-in : {i : ℕ} → i < place terms 0 → 192 + 64 * r * l + i < length terms
+  pub term-in : {i : ℕ} → i < weightIn terms → termsAt + 64 * r * l + i < length terms
   term-in b =
       omega (
         arith,
@@ -76,14 +76,14 @@ module _ {size l p n r : ℕ} {cells terms counts : List ℕ} (ok : Countable si
       )
 
 module _ {stride l p n : ℕ} {cells terms counts₀ counts : List ℕ} {i : ℕ}
-    (ok : Countable stride l p n cells terms counts₀) (a : Adding (place terms 0) (termAdds stride l p n cells terms) counts₀ counts i) where
+    (ok : Countable stride l p n cells terms counts₀) (a : Adding (weightIn terms) (termAdds stride l p n cells terms) counts₀ counts i) where
   -- after the last term
-  pub terms-end : place terms 0 ≤ i → counts ≡ raised counts₀ (termsAdd stride l p n cells terms)
+  pub terms-end : weightIn terms ≤ i → counts ≡ raised counts₀ (termsAdd stride l p n cells terms)
   unfolding termAdds rowsWith
   terms-end b = adding-end a b
 
   -- the next term's logarithm and place
-  module _ (b : i < place terms 0) {last log h : ℕ} (e : last ≡ 2 ^ p - 1) (x : Parted stride n l i terms log h) where
+  module _ (b : i < weightIn terms) {last log h : ℕ} (e : last ≡ 2 ^ p - 1) (x : Parted stride n l i terms log h) where
     place-lt : h < n
     place-lt = omega (arith, x .place-is, ok .place-lt i b)
 
@@ -120,7 +120,7 @@ module _ {stride l p n : ℕ} {cells terms counts₀ counts : List ℕ} {i : ℕ
     -- and is counted
     pub term-more : (counts′ : List ℕ)
         → counts′ ≡ raised counts (λ k. total (n + 1) (cellAdds cells (h) ((last - log) * (n + 1) - h) k))
-        → Adding (place terms 0) (termAdds stride l p n cells terms) counts₀ counts′ (i + 1)
+        → Adding (weightIn terms) (termAdds stride l p n cells terms) counts₀ counts′ (i + 1)
     unfolding termAdds cellAdds
     term-more counts′ d =
         adding-more a counts′ b

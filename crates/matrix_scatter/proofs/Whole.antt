@@ -8,7 +8,7 @@ use lib.ListN.{length}
 use Rattle.spec_range.proofs.Fold.{fold-cong, fold-op, sums}
 use Rattle.spec_word.specs.Word.{at}
 use Rattle.word_array.specs.Stored.{place, Sizes}
-use Rattle.matrix_terms.specs.Terms.{TermsOf, Filling}
+use Rattle.matrix_terms.specs.Terms.{TermsOf, Filling, weightIn}
 use Rattle.matrix_terms.proofs.Whole.{RowsFilled, terms-weight}
 use Rattle.matrix_terms.proofs.Received.{order-low}
 use Rattle.matrix_scatter.specs.Scatter.{bothRows, Gathered}
@@ -38,7 +38,7 @@ module _ {stride p n duals : ℕ} {terms r m₀ : List ℕ} where
 
   -- the rows from 1 on are those of the matrix
   pub rows-filled : {b : ℕ → ℕ → ℕ} {counts m : List ℕ} → TermsOf stride p n duals b terms → Scattered stride p n duals terms r counts
-      → Gathered p n terms counts m₀ m → RowsFilled p n b duals (place terms 0) (at n r) m
+      → Gathered p n terms counts m₀ m → RowsFilled p n b duals (weightIn terms) (at n r) m
   unfolding bothRows dualRows
   rows-filled {b} h c g =
       let x = h .numbers .powers in

@@ -9,7 +9,7 @@ use Rattle.spec_field.specs.Symbols.{gf}
 use Rattle.spec_word.specs.Word.{at, product}
 use Rattle.sizes.specs.Blocks.{span}
 use Rattle.word_array.specs.Stored.{place}
-use Rattle.matrix_terms.specs.Terms.{term, TermsOf}
+use Rattle.matrix_terms.specs.Terms.{term, TermsOf, weightIn}
 use Rattle.matrix_scatter.specs.Scatter.{symbolRow, rowsWith}
 
 -- counters for every row, all zero
@@ -28,7 +28,7 @@ pub record Scattering (stride p n duals : ℕ) (terms r counts : List ℕ) : Typ
 
 -- how many terms of dual word l, which is b, count in row e of the counters and column j: `row` tells the row of a symbol, f is the received word
 unfoldable pub dualRows : ℕ → ℕ → ℕ → List ℕ → (ℕ → ℕ) → (ℕ → ℕ) → (ℕ → ℕ) → ℕ → ℕ → ℕ → ℕ
-dualRows stride p n terms row f b l e j = rowsWith stride p (λ m. row (product (gf p) n b f m)) (place terms 0) (term n terms l) e j
+dualRows stride p n terms row f b l e j = rowsWith stride p (λ m. row (product (gf p) n b f m)) (weightIn terms) (term n terms l) e j
 
 -- the counters hold what all dual words count
 pub record Scattered (stride p n duals : ℕ) (terms r counts : List ℕ) : Type 0 where

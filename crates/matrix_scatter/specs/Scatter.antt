@@ -11,7 +11,7 @@ use Rattle.spec_range.specs.Fold.{total, indicator}
 use Rattle.spec_word.specs.Word.{at, nonzero}
 use Rattle.sizes.specs.Blocks.{blocks}
 use Rattle.word_array.specs.Stored.{place, Sizes}
-use Rattle.matrix_terms.specs.Terms.{term}
+use Rattle.matrix_terms.specs.Terms.{term, termsAt, weightIn}
 
 -- a room has the logarithms of the nonzero symbols, each at the place of its symbol
 pub record Logged (p : ℕ) (logs : List ℕ) : Type 0 where
@@ -68,20 +68,20 @@ rowsWith stride p row weight turns e j = total weight (λ i. indicator (eqb (row
 
 -- how many terms of dual word l count in the flat counter k: `cells` has the offsets of the product
 abbrev pub termsAdd : ℕ → ℕ → ℕ → ℕ → List ℕ → List ℕ → ℕ → ℕ
-termsAdd stride l p n cells terms k = rowsWith stride p (rowAt n cells) (place terms 0) (term n terms l) (k / (n + 1)) (k % (n + 1))
+termsAdd stride l p n cells terms k = rowsWith stride p (rowAt n cells) (weightIn terms) (term n terms l) (k / (n + 1)) (k % (n + 1))
 
 -- what counting the terms of dual word l asks
 pub record Countable (stride l p n : ℕ) (cells terms counts : List ℕ) : Type 0 where
   pub sizes : Sizes p n
   pub eights : (n + 1) % 8 ≡ 0
   pub low : l < 32
-  pub few : place terms 0 ≤ n
+  pub few : weightIn terms ≤ n
   pub cells-long : n + n ≤ length cells
   pub row-le : (m : ℕ) → m < n + n → rowAt n cells m ≤ 2 * (2 ^ p - 1)
   pub cell-at : (m : ℕ) → m < n + n → place cells m ≡ rowAt n cells m * (n + 1) + m
-  pub terms-long : 192 + 64 * blocks n * 32 ≤ length terms
-  pub place-lt : (i : ℕ) → i < place terms 0 → term n terms l i % stride < n
-  pub log-lt : (i : ℕ) → i < place terms 0 → term n terms l i / stride + 1 < 2 ^ p
+  pub terms-long : termsAt + 64 * blocks n * 32 ≤ length terms
+  pub place-lt : (i : ℕ) → i < weightIn terms → term n terms l i % stride < n
+  pub log-lt : (i : ℕ) → i < weightIn terms → term n terms l i / stride + 1 < 2 ^ p
   pub size : (3 * (2 ^ p - 1) + 1) * (n + 1) ≤ length counts
   pub room : (k : ℕ) → place counts k ≤ 64900
 

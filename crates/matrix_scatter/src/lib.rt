@@ -13,6 +13,7 @@ ghost use Rattle.matrix_scatter.specs.Scatter.{Logged, RowStarts, Starte
 ghost use Rattle.matrix_scatter.specs.Scatter.{Countable, termsAdd, RowGathered, Gatherable, Gathered};
 ghost use Rattle.matrix_scatter.specs.Fill.{Cleared, Scattering, Scattered};
 use matrix_terms::TERMS_AT;
+use matrix_terms::WEIGHT_AT;
 use sizes::BLOCK;
 use sizes::SPAN;
 use sizes::STRIDE;
@@ -122,7 +123,7 @@ fn count_dual(l: usize, p: u8, n: usize, cells: &[u16], terms: &[u16], counts: &
     ensures { λ _. ⌜ now (counts .exit) ≡ raised (now (counts .entry)) (termsAdd (stride n) l p n (now (cells .entry)) (now (terms .entry))) ⌝ }
 {
     let last = sizes::wide(field::order(p)) - 1;
-    let weight = terms[0] as usize;
+    let weight = terms[WEIGHT_AT] as usize;
     let from = TERMS_AT + BLOCK * sizes::blocks(n) * l;
     let shift = sizes::shift(n);
     let mut i = 0;
@@ -196,7 +197,7 @@ fn fill_by(
 {
     count_duals(p, n, duals, terms, r, counts);
     gather(p, n, terms, counts, m);
-    matrix_terms::row_zero(p, n, (duals as u16) * terms[0], m);
+    matrix_terms::row_zero(p, n, (duals as u16) * terms[WEIGHT_AT], m);
 }
 
 // Fills the matrix where counters are few.

@@ -21,7 +21,7 @@ use Rattle.word_array.specs.Stored.{place, Sizes}
 use Rattle.word_table.proofs.Rows.{rows-apart}
 use Rattle.field_powers.specs.Powers.{power, PowersOf, PowersPut}
 use Rattle.spec_book.specs.Layout.{bookOf, width, dualAt, bodyPlace}
-use Rattle.matrix_terms.specs.Terms.{Places, Turns, dualOf, term, RowOf, TermsOf, Kept, unlisted, already}
+use Rattle.matrix_terms.specs.Terms.{Places, Turns, dualOf, term, RowOf, TermsOf, Kept, unlisted, already, termsAt, weightIn}
 use Rattle.matrix_terms.specs.Listed.{DualIn, RowIn, Listable, DualListed}
 use Rattle.matrix_terms.proofs.Digits.{log-of, place-of}
 use Rattle.matrix_terms.proofs.Received.{table-le}
@@ -116,7 +116,7 @@ module _ {stride n : ℕ} {b : ℕ → ℕ} {from : ℕ} {terms₀ : List ℕ} {
 
 -- dual word l, which is read from `start` on, and whose terms are written from `from` on
 module _ {bytes : List ℕ} {p n l start from : ℕ} (ok : DualIn bytes p n l) (starts : start ≡ dualAt (width bytes) l + 1)
-    (goes : from ≡ 192 + span n * l) where
+    (goes : from ≡ termsAt + span n * l) where
   dual-byte : {j : ℕ} → j < n → place bytes (start + j) ≡ dualOf bytes l j
   unfolding bookOf
   dual-byte {j} d = ap (λ (k : ℕ). place bytes (k + j)) starts
@@ -178,9 +178,9 @@ module _ {bytes : List ℕ} {p n l start from : ℕ} (ok : DualIn bytes p n l) (
 pub record Based (p n duals : ℕ) (terms : List ℕ) : Type 0 where
   pub sizes : Sizes p n
   pub few-duals : duals ≤ 32
-  pub long : 192 + span n * 32 ≤ length terms
+  pub long : termsAt + span n * 32 ≤ length terms
   pub powers : PowersOf p terms
-  pub few : place terms 0 ≤ n
+  pub few : weightIn terms ≤ n
 
 -- with a row for each dual word
 pub terms-of : {stride p n duals : ℕ} {b : ℕ → ℕ → ℕ} {terms : List ℕ} → n + n ≤ stride → Based p n duals terms
@@ -215,7 +215,7 @@ turns-same {stride} h same e =
     }
 
 -- so do powers and logarithms
-powers-same : {p : ℕ} {w w′ : List ℕ} → p ≤ 6 → PowersOf p w → ((k : ℕ) → 0 < k → k < 192 → place w′ k ≡ place w k) → PowersOf p w′
+powers-same : {p : ℕ} {w w′ : List ℕ} → p ≤ 6 → PowersOf p w → ((k : ℕ) → 0 < k → k < termsAt → place w′ k ≡ place w k) → PowersOf p w′
 powers-same {p} high h same =
     let most : 2 ^ p ≤ 64 = pow-mono high in
     record {
@@ -228,7 +228,7 @@ powers-same {p} high h same =
 pub record ListedTo (stride : ℕ) (bytes : List ℕ) (n duals : ℕ) (terms₀ : List ℕ) (last l : ℕ) (terms : List ℕ) : Type 0 where
   pub within : l ≤ duals
   pub long : length terms ≡ length terms₀
-  pub low : (k : ℕ) → k < 192 → place terms k ≡ place terms₀ k
+  pub low : (k : ℕ) → k < termsAt → place terms k ≡ place terms₀ k
   pub last-is : 0 < l → last ≡ weight n (dualOf bytes 0)
   pub turns-of : (i : ℕ) → i < l → Turns stride n (dualOf bytes i) terms₀ (weight n (dualOf bytes 0)) (term n terms i)
 
@@ -243,7 +243,7 @@ listed-none stride bytes n duals terms last =
       turns-of = λ i l. absurd (not-suc-le-zero l);
     }
 
-module _ {bytes : List ℕ} {stride p n duals : ℕ} (ok : Listable bytes p n duals) {old terms₀ : List ℕ} (room : 192 + span n * 32 ≤ length old)
+module _ {bytes : List ℕ} {stride p n duals : ℕ} (ok : Listable bytes p n duals) {old terms₀ : List ℕ} (room : termsAt + span n * 32 ≤ length old)
     (put : PowersPut p old terms₀) {last l : ℕ} {terms : List ℕ} (h : ListedTo stride bytes n duals terms₀ last l terms) where
   -- there are at most 64 symbols
   most : 2 ^ p ≤ 64
@@ -278,7 +278,7 @@ module _ {bytes : List ℕ} {stride p n duals : ℕ} (ok : Listable bytes p n du
             (λ q. subst (λ (i : ℕ). Turns stride n (dualOf bytes i) terms₀ all (term n terms′ i)) (sym q)
             (subst (λ (x : ℕ). Turns stride n (dualOf bytes l) terms₀ x (term n terms′ l)) one
             (turns-same (more .turns-of) (λ j _. sym (h .low _ (omega (arith, ok .symbol l j d, most)))) (λ i _. refl))))
-            (λ a. turns-same (h .turns-of i a) (λ j _. refl) (λ k c. more .low (192 + span n * i + k) (below i k a (h .turns-of i a .places .few) c)))
+            (λ a. turns-same (h .turns-of i a) (λ j _. refl) (λ k c. more .low (termsAt + span n * i + k) (below i k a (h .turns-of i a .places .few) c)))
             (eq-or-lt-of-le (le-of-suc-le-suc (subst (λ (m : ℕ). i < m) (add-one l) a)));
       }
     where
@@ -288,7 +288,7 @@ module _ {bytes : List ℕ} {stride p n duals : ℕ} (ok : Listable bytes p n du
       one : w ≡ all
       one = sym (places-weight (more .turns-of .places)) ∙ ok .one-weight l d
 
-      below : (i k : ℕ) → i < l → all ≤ n → k < all → 192 + span n * i + k < 192 + span n * l
+      below : (i k : ℕ) → i < l → all ≤ n → k < all → termsAt + span n * i + k < termsAt + span n * l
       below i k a few c = omega (arith, blocks-fit (ok .sizes .n-high), rows-apart (span n) a)
 
   -- after the last
@@ -326,13 +326,13 @@ module _ {bytes : List ℕ} {stride p n duals : ℕ} (ok : Listable bytes p n du
               symbol = λ j. ok .symbol i j a;
               turns-of = subst (λ (x : ℕ). Turns stride n (dualOf bytes i) (set terms 0 last) x (term n (set terms 0 last) i)) (sym (first ∙ last-weight))
                   (turns-same (h .turns-of i (omega arith)) (λ j pos. after _ pos ∙ h .low _ (omega (arith, ok .symbol i j a, most)))
-                  (λ k _. after (192 + span n * i + k) (omega arith)));
+                  (λ k _. after (termsAt + span n * i + k) (omega arith)));
             }
 
 -- ---- a room that is kept
 
 -- where the weight is not 0, the terms are listed
-pub still-listed : {stride p n duals : ℕ} {b : ℕ → ℕ → ℕ} {terms : List ℕ} → Kept stride p n duals b terms → (place terms 0 ≡ 0 → ⊥)
+pub still-listed : {stride p n duals : ℕ} {b : ℕ → ℕ → ℕ} {terms : List ℕ} → Kept stride p n duals b terms → (weightIn terms ≡ 0 → ⊥)
     → TermsOf stride p n duals b terms
 still-listed (unlisted z) h = absurd (h z)
 still-listed (already t) h = t

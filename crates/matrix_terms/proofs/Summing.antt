@@ -34,7 +34,7 @@ use Rattle.word_table.specs.Window.{Window}
 use Rattle.word_table.proofs.Window.{window-at}
 use Rattle.word_table.proofs.Rows.{rows-apart}
 use Rattle.field_powers.proofs.Laws.{power-below}
-use Rattle.matrix_terms.specs.Terms.{Terms, RowOf, term}
+use Rattle.matrix_terms.specs.Terms.{Terms, RowOf, term, termsAt, weightIn}
 use Rattle.matrix_terms.specs.Sums.{startOf, termsSum, Summands}
 use Rattle.matrix_terms.proofs.Digits.{log-of, place-of}
 
@@ -55,7 +55,7 @@ shift-high n = go (length-of n)
 
 -- the rows of the first i terms are summed, in the block from place `at` on
 pub record Summing (stride n : ℕ) (terms : List ℕ) (from : ℕ) (t : List ℕ) (at i : ℕ) (sum : List ℕ) : Type 0 where
-  pub within : i ≤ place terms 0
+  pub within : i ≤ weightIn terms
   pub long : length sum ≡ 64
   pub places : (j : ℕ) → j < 64 → place sum j ≡ fold bitXor 0 i (λ i. place t (startOf stride n terms from i + (at + j)))
 
@@ -66,7 +66,7 @@ summing-none stride n terms from t at =
 
 module _ {stride n : ℕ} {terms : List ℕ} {from : ℕ} {t : List ℕ} {at i : ℕ} {sum : List ℕ} (h : Summing stride n terms from t at i sum) where
   -- one more
-  pub summing-more : {start : ℕ} {sum′ : List ℕ} → i < place terms 0 → start ≡ startOf stride n terms from i + at
+  pub summing-more : {start : ℕ} {sum′ : List ℕ} → i < weightIn terms → start ≡ startOf stride n terms from i + at
       → sum′ ≡ table 64 (λ j. bitXor (place sum j) (place t (start + j))) → Summing stride n terms from t at (i + 1) sum′
   summing-more l es e =
       record {
@@ -78,10 +78,10 @@ module _ {stride n : ℕ} {terms : List ℕ} {from : ℕ} {t : List ℕ} {at i :
       }
 
   -- after the last
-  pub summing-end : place terms 0 ≤ i → sum ≡ table 64 (λ j. termsSum stride n terms from t (at + j))
+  pub summing-end : weightIn terms ≤ i → sum ≡ table 64 (λ j. termsSum stride n terms from t (at + j))
   unfolding termsSum
   summing-end l =
-      let e : i ≡ place terms 0 = omega (arith, h .within) in
+      let e : i ≡ weightIn terms = omega (arith, h .within) in
       ext-getD 0 sum (table 64 (λ j. termsSum stride n terms from t (at + j))) (h .long ∙ sym (table-length 64 _)) (λ j k.
       let d : j < 64 = subst (λ (m : ℕ). j < m) (h .long) k in
       h .places j d ∙ ap (λ (i : ℕ). fold bitXor 0 i (λ i. place t (startOf stride n terms from i + (at + j)))) e
@@ -89,7 +89,7 @@ module _ {stride n : ℕ} {terms : List ℕ} {from : ℕ} {t : List ℕ} {at i :
 
 -- the parts of term i as the code has them: its digits from `shift` on, and those below
 module _ {stride span n : ℕ} {terms : List ℕ} {from : ℕ} {t : List ℕ} (ok : Summands stride span n terms from t) (shift : ℕ) (e : 2 ^ shift ≡ stride)
-    {i : ℕ} (a : i < place terms 0) where
+    {i : ℕ} (a : i < weightIn terms) where
   abbrev x : ℕ
   x = place terms (from + i)
 
@@ -117,10 +117,10 @@ module _ {stride span n : ℕ} {terms : List ℕ} {from : ℕ} {t : List ℕ} (o
 module _ {stride p n duals : ℕ} {terms : List ℕ} (ok : Terms stride p n duals terms) {l : ℕ} (d : l < duals) where
   -- where the terms of dual word l start
   abbrev from : ℕ
-  from = 192 + 64 * blocks n * l
+  from = termsAt + 64 * blocks n * l
 
   -- the symbol of a term is one
-  symbol-lt : {i : ℕ} → i < place terms 0 → place terms (64 + term n terms l i / stride) < 2 ^ p
+  symbol-lt : {i : ℕ} → i < weightIn terms → place terms (64 + term n terms l i / stride) < 2 ^ p
   symbol-lt {i} a =
       let s = ok .sizes in
       let low = ok .log-lt l i d a in
@@ -148,7 +148,7 @@ module _ {stride p n duals : ℕ} {terms : List ℕ} (ok : Terms stride p n dual
     at = row .turns-of .places .place-at
 
     -- a term's row is that of its symbol, turned by its place
-    at-start : (j : ℕ) {i : ℕ} → i < place terms 0 → place t (startOf stride n terms from i + j) ≡ turned stride n b t j (at i)
+    at-start : (j : ℕ) {i : ℕ} → i < weightIn terms → place t (startOf stride n terms from i + j) ≡ turned stride n b t j (at i)
     at-start j {i} a =
         let pos = row .turns-of .places .symbol-pos i a in
         let log = ok .powers .log-lt (b (at i)) pos (row .symbol (at i)) in
@@ -179,12 +179,12 @@ module _ {stride p n duals : ℕ} {terms : List ℕ} (ok : Terms stride p n dual
           symbols = record {
             symbol = λ j d.
                 subst (λ (x : ℕ). x < 2 ^ p) (sym (window-at put j d))
-                (sum-below (gf p) laws (place terms 0) _ (λ k e.
+                (sum-below (gf p) laws (weightIn terms) _ (λ k e.
                 subst (λ (x : ℕ). x < 2 ^ p) (sym (at-start j e)) (turned-symbol j (at k) d (row .turns-of .places .place-lt k e))));
           };
           places = λ j d.
               window-at put j (omega arith)
-              ∙ fold-cong bitXor 0 (place terms 0) (λ i e. at-start j e)
+              ∙ fold-cong bitXor 0 (weightIn terms) (λ i e. at-start j e)
               ∙ row .turns-of .places .folds bitXor 0 xor-zero-r (turned stride n b t j)
               ∙ fold-cong bitXor 0 n (λ u e. adds j u d e);
         }
@@ -197,16 +197,16 @@ module _ {stride p n duals : ℕ} {terms : List ℕ} (ok : Terms stride p n dual
 -- the same by the number of blocks that the code has
 module _ {p n duals : ℕ} {terms : List ℕ} (ok : Terms (stride n) p n duals terms) {l : ℕ} (d : l < duals) {x : ℕ} (e : x ≡ blocks n)
     {t : List ℕ} (m : Multiples (stride n) p n t) where
-  pub row-summands : Summands (128 * x) (64 * x) n terms (192 + 64 * x * l) t
+  pub row-summands : Summands (128 * x) (64 * x) n terms (termsAt + 64 * x * l) t
   row-summands =
-      subst (λ (x : ℕ). Summands (128 * x) (64 * x) n terms (192 + 64 * x * l) t) (sym e)
+      subst (λ (x : ℕ). Summands (128 * x) (64 * x) n terms (termsAt + 64 * x * l) t) (sym e)
       (summands ok d (omega (arith, blocks-fit (ok .sizes .n-high))) m)
 
-  pub row-product : {i : ℕ} {b : ℕ → ℕ} {w₀ w : List ℕ} → i ≤ x → x ≤ i → Window 0 (64 * i) (termsSum (128 * x) n terms (192 + 64 * x * l) t) w₀ w
+  pub row-product : {i : ℕ} {b : ℕ → ℕ} {w₀ w : List ℕ} → i ≤ x → x ≤ i → Window 0 (64 * i) (termsSum (128 * x) n terms (termsAt + 64 * x * l) t) w₀ w
       → RowOf (stride n) p n l b terms → Multiplied (span n) p n b (wordOf (stride n) n t) w
   row-product {i} {w₀ = w₀} {w = w} low high put row =
       let all : i ≡ x = omega arith in
       let fits = blocks-fit (ok .sizes .n-high) in
       blocks-end ok d row m (omega (arith, fits)) (omega (arith, fits))
-      (subst (λ (x : ℕ). Window 0 (64 * x) (termsSum (128 * x) n terms (192 + 64 * x * l) t) w₀ w) e
-      (subst (λ (i : ℕ). Window 0 (64 * i) (termsSum (128 * x) n terms (192 + 64 * x * l) t) w₀ w) all put))
+      (subst (λ (x : ℕ). Window 0 (64 * x) (termsSum (128 * x) n terms (termsAt + 64 * x * l) t) w₀ w) e
+      (subst (λ (i : ℕ). Window 0 (64 * i) (termsSum (128 * x) n terms (termsAt + 64 * x * l) t) w₀ w) all put))

@@ -22,7 +22,7 @@ use Rattle.spec_field.proofs.Gf.{product-below}
 use Rattle.spec_word.specs.Word.{nonzero, weight, product}
 use Rattle.word_array.specs.Stored.{place, Sizes}
 use Rattle.matrix_terms.specs.Count.{placeCounts, dualCounts, counted}
-use Rattle.matrix_terms.specs.Terms.{Places, Terms, TermsOf}
+use Rattle.matrix_terms.specs.Terms.{Places, Terms, TermsOf, weightIn}
 
 -- ---- one dual word
 
@@ -115,9 +115,9 @@ module _ {p n : ℕ} {b : ℕ → ℕ → ℕ} {duals w : ℕ} {r : ℕ → ℕ}
 
 -- each has the weight that stands there
 pub terms-weight : {stride p n duals : ℕ} {b : ℕ → ℕ → ℕ} {terms : List ℕ} → TermsOf stride p n duals b terms → (l : ℕ) → l < duals
-    → weight n (b l) ≡ place terms 0
+    → weight n (b l) ≡ weightIn terms
 terms-weight h l d = places-weight (h .row-of l d .turns-of .places)
 
 -- a column's sum is at most 8160
-pub all-le : {stride p n duals : ℕ} {terms : List ℕ} → Terms stride p n duals terms → duals * place terms 0 ≤ 8160
-all-le {n = n} {terms = terms} h = let small : place terms 0 ≤ 255 = omega (arith, h .few, h .sizes .n-high) in mul-le-mul (h .few-duals) small
+pub all-le : {stride p n duals : ℕ} {terms : List ℕ} → Terms stride p n duals terms → duals * weightIn terms ≤ 8160
+all-le {n = n} {terms = terms} h = let small : weightIn terms ≤ 255 = omega (arith, h .few, h .sizes .n-high) in mul-le-mul (h .few-duals) small

@@ -8,7 +8,7 @@ use Rattle.spec_word.specs.Word.{weight}
 use Rattle.word_array.specs.Stored.{place, Sizes}
 use Rattle.sizes.specs.Blocks.{blocks}
 use Rattle.spec_book.specs.Layout.{wordLength, width, dualAt}
-use Rattle.matrix_terms.specs.Terms.{dualOf, Turns, term}
+use Rattle.matrix_terms.specs.Terms.{dualOf, Turns, term, termsAt}
 
 -- dual word l lies within the book, and has symbols only
 pub record DualIn (bytes : List ℕ) (p n l : ℕ) : Type 0 where
@@ -20,7 +20,7 @@ pub record DualIn (bytes : List ℕ) (p n l : ℕ) : Type 0 where
 
 -- row l lies within the room, and every symbol has a small number there, zero too
 pub record RowIn (p n l : ℕ) (terms : List ℕ) : Type 0 where
-  pub within : 192 + 64 * blocks n * l + 64 * blocks n ≤ length terms
+  pub within : termsAt + 64 * blocks n * l + 64 * blocks n ≤ length terms
   pub small : (c : ℕ) → c < 2 ^ p → place terms c < 2 ^ p
 
 -- each of the first `duals` dual words lies within the book and has symbols only, and all of them have one weight
@@ -36,5 +36,5 @@ pub record Listable (bytes : List ℕ) (p n duals : ℕ) : Type 0 where
 -- row l became the terms of dual word l, which has the weight w; the numbers below it and the length are as before
 pub record DualListed (stride : ℕ) (bytes : List ℕ) (n l w : ℕ) (terms₀ terms : List ℕ) : Type 0 where
   pub long : length terms ≡ length terms₀
-  pub low : (k : ℕ) → k < 192 + 64 * blocks n * l → place terms k ≡ place terms₀ k
+  pub low : (k : ℕ) → k < termsAt + 64 * blocks n * l → place terms k ≡ place terms₀ k
   pub turns-of : Turns stride n (dualOf bytes l) terms₀ w (term n terms l)

@@ -9,7 +9,7 @@ ghost use Rattle.spec_range.specs.Table.{table};
 ghost use Rattle.word_array.specs.Stored.{place, Sizes};
 ghost use Rattle.sizes.specs.Blocks.{span, stride};
 ghost use Rattle.word_table.specs.Multiples.{wordOf, Multiples, Multiplied};
-ghost use Rattle.matrix_terms.specs.Terms.{dualOf, Terms, RowOf, TermsOf, Kept};
+ghost use Rattle.matrix_terms.specs.Terms.{dualOf, Terms, RowOf, TermsOf, Kept, termsAt};
 ghost use Rattle.matrix_terms.specs.Listed.{DualIn, RowIn, Listable, DualListed};
 ghost use Rattle.matrix_terms.specs.Sums.{termsSum, Summands};
 ghost use Rattle.matrix_terms.specs.RowZero.{Covers, Subtracted};
@@ -18,7 +18,9 @@ use sizes::BLOCK;
 use sizes::DUALS;
 use sizes::SPAN;
 
-// Where a room has the terms of the first dual word.
+// Where a room has the weight of the dual words; 0 there says that nothing is listed yet.
+pub const WEIGHT_AT: usize = 0;
+// Where it has the terms of the first dual word.
 pub const TERMS_AT: usize = POWERS_AT + 2 * BLOCK;
 // How many numbers a room has where words take a single block, and where they are longer.
 pub const TERMS: usize = TERMS_AT + BLOCK * DUALS;
@@ -61,7 +63,7 @@ fn list_dual(book: &[u8], p: u8, n: usize, l: usize, terms: &mut [u16]) -> usize
 
 // Lists the terms of every dual word. The weight comes last, so that number 0 is 0 until they stand.
 pub fn list(book: &[u8], p: u8, n: usize, duals: usize, terms: &mut [u16])
-    requires { ⌜ Listable (now book) p n duals × (192 + span n * 32 ≤ length (now terms)) ⌝ }
+    requires { ⌜ Listable (now book) p n duals × (termsAt + span n * 32 ≤ length (now terms)) ⌝ }
     ensures { λ _. ⌜ TermsOf (stride n) p n duals (dualOf (now (book .entry))) (now (terms .exit))
         × (length (now (terms .exit)) ≡ length (now (terms .entry))) ⌝ }
 {
@@ -72,16 +74,16 @@ pub fn list(book: &[u8], p: u8, n: usize, duals: usize, terms: &mut [u16])
         weight = list_dual(book, p, n, l, terms);
         l += 1;
     }
-    terms[0] = weight as u16;
+    terms[WEIGHT_AT] = weight as u16;
 }
 
 // Lists the terms where nothing is listed yet.
 pub fn ready(book: &[u8], p: u8, n: usize, duals: usize, terms: &mut [u16])
-    requires { ⌜ Listable (now book) p n duals × (192 + span n * 32 ≤ length (now terms)) × Kept (stride n) p n duals (dualOf (now book)) (now terms) ⌝ }
+    requires { ⌜ Listable (now book) p n duals × (termsAt + span n * 32 ≤ length (now terms)) × Kept (stride n) p n duals (dualOf (now book)) (now terms) ⌝ }
     ensures { λ _. ⌜ TermsOf (stride n) p n duals (dualOf (now (book .entry))) (now (terms .exit))
         × (length (now (terms .exit)) ≡ length (now (terms .entry))) ⌝ }
 {
-    if terms[0] == 0 {
+    if terms[WEIGHT_AT] == 0 {
         list(book, p, n, duals, terms);
     }
 }
@@ -99,7 +101,7 @@ fn product_block(
     requires { ⌜ Summands (128 * blocks) (64 * blocks) n (now terms) from (now t) × (2 ^ shift ≡ 128 * blocks) × (shift ≤ 9) × (at + 64 ≤ 64 * blocks) ⌝ }
     ensures { λ r. ⌜ r ≡ table 64 (λ j. termsSum (128 * blocks) n (now (terms .entry)) from (now (t .entry)) (at + j)) ⌝ }
 {
-    let weight = terms[0] as usize;
+    let weight = terms[WEIGHT_AT] as usize;
     let stride = 2 * BLOCK * blocks;
     let mut sum = [0u8; BLOCK];
     let mut i = 0;

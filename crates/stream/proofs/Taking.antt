@@ -14,7 +14,7 @@ use Rattle.book.specs.declared.Params.{Params}
 use Rattle.stream_text.specs.Printed.{Printed}
 use Rattle.sizes.proofs.Lengths.{blocks-high}
 use Rattle.word_array.specs.Stored.{place}
-use Rattle.matrix_terms.specs.Terms.{unlisted}
+use Rattle.matrix_terms.specs.Terms.{unlisted, weightIn}
 use Rattle.decode_rounds.specs.Rounds.{TermsRoom}
 use Rattle.stream.specs.declared.Phase.{Phase}
 use Rattle.stream.specs.declared.Phase.the-variants.{Opening, Answering, Ended}
@@ -31,7 +31,7 @@ pub rest-is : (piece : List ℕ) (at : ℕ) → take (length piece - at) (drop a
 rest-is piece at = take-all (length piece - at) (drop at piece) (omega (arith, length-drop at piece))
 
 -- nothing is listed yet in a room whose number 0 is 0
-none-listed : (bytes : List ℕ) (c : Params) (terms : List ℕ) → length terms ≡ 8384 → place terms 0 ≡ 0 → TermsRoom bytes c terms
+none-listed : (bytes : List ℕ) (c : Params) (terms : List ℕ) → length terms ≡ 8384 → weightIn terms ≡ 0 → TermsRoom bytes c terms
 none-listed bytes c terms size fresh = record { long = omega (arith, blocks-high (c .n)); kept = unlisted fresh }
 
 -- ---- `head` bytes of a piece join the field
@@ -159,7 +159,7 @@ module _ (s : State) (waiting : Waiting s) (sized : Sized s) {piece field : List
           held-le = sized .held-le;
         }
 
-    pub taken-sound : (told : Judged) {t terms : List ℕ} → Told field′ book′ told t → length t ≡ 8192 → length terms ≡ 8384 → place terms 0 ≡ 0
+    pub taken-sound : (told : Judged) {t terms : List ℕ} → Told field′ book′ told t → length t ≡ 8192 → length terms ≡ 8384 → weightIn terms ≡ 0
         → Sound (settledOf s′ told) t terms
     taken-sound Coming j t-size terms-size fresh =
         record {
@@ -193,7 +193,7 @@ module _ (s : State) (waiting : Waiting s) (sized : Sized s) {piece field : List
 
     -- the whole
     pub opens : {told : Judged} {t terms out₀ out : List ℕ} {end : ℕ} {r : State} → r ≡ settledOf s′ told → Told field′ book′ told t
-        → Printed out₀ 0 (toldText told) out end → end ≤ 5 → 5 ≤ length out₀ → length t ≡ 8192 → length terms ≡ 8384 → place terms 0 ≡ 0
+        → Printed out₀ 0 (toldText told) out end → end ≤ 5 → 5 ≤ length out₀ → length t ≡ 8192 → length terms ≡ 8384 → weightIn terms ≡ 0
         → Opens s piece out₀ (record { state = r; at = head + body; end = end }) t terms out
     opens {told} {t} {terms} {out₀} {out} {end} {r} is j printed low room t-size terms-size fresh =
         record {

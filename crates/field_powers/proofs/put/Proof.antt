@@ -10,6 +10,7 @@ use Rattle.field_powers.proofs.Logging.{Logging, logging-none, logging-
 use borrow.Author.Needs.{needs}
 use Rattle.field_powers.proofs.put.Statement.{statement}
 use Rattle.field_powers.proofs.put.Tie as tie
+use Rattle.field_powers.specs.Powers.{powersEnd}
 
 abbrev Inv-loop : tie.InvT-loop
 Inv-loop p room₀ round symbol₀ e₀ room symbol e = Logging p round room₀ room symbol e
@@ -31,7 +32,7 @@ symbol c =
     let s = c .before .loop in
     omega (arith, s .inv .symbol-is, power-fits (pre .0) (pre .1) (s .e))
 
-room : (c : tie.In-loop Inv-loop μ-loop) → 192 ≤ length (c .before .loop .room)
+room : (c : tie.In-loop Inv-loop μ-loop) → powersEnd ≤ length (c .before .loop .room)
 room c = let a = c .before .before .before .before .before in omega (arith, c .before .loop .inv .long, a .pre .2, length-set (a .args .room .now) 0 0)
 
 order-requires : tie.Need-order-requires Inv-loop μ-loop

@@ -13,6 +13,7 @@ use Rattle.matrix_marks.proofs.Tallying.{tallied-none, dual-turned, dua
 use borrow.Author.Needs.{needs}
 use Rattle.matrix_marks.proofs.count_duals.Statement.{statement}
 use Rattle.matrix_marks.proofs.count_duals.Tie as tie
+use Rattle.matrix_terms.specs.Terms.{termsAt}
 
 abbrev Inv-loop : tie.InvT-loop
 Inv-loop p n duals terms t v₀ counts₀ weight blocks w₀ l₀ v counts w l =
@@ -28,7 +29,7 @@ begun s = s .before .before .before .before .before .before .before .before
 
 -- the terms of dual word l are in the room
 terms-in : (s : tie.In-loop Inv-loop μ-loop) → let args = begun (s .before) .args in
-    192 + 64 * s .before .before .before .blocks2 .result * s .before .loop .l ≤ length (args .terms .now)
+    termsAt + 64 * s .before .before .before .blocks2 .result * s .before .loop .l ≤ length (args .terms .now)
 terms-in s =
     let ok = begun (s .before) .pre in
     omega (arith, row-summands (ok .terms-of .numbers) (s .loop-test .taken) (s .before .before .before .blocks2 .ensures) (ok .multiples) .within)

@@ -13,10 +13,11 @@ use Rattle.matrix_scatter.proofs.Terms.{Parted, parted, termAdds, row-s
 use borrow.Author.Needs.{needs}
 use Rattle.matrix_scatter.proofs.count_dual.Statement.{statement}
 use Rattle.matrix_scatter.proofs.count_dual.Tie as tie
+use Rattle.matrix_terms.specs.Terms.{termsAt, weightIn}
 
 abbrev Inv-loop : tie.InvT-loop
 Inv-loop l p n cells terms counts₀ last weight from shift i₀ counts i =
-    (last ≡ 2 ^ p - 1) × Adding (place terms 0) (termAdds (stride n) l p n cells terms) counts₀ counts i
+    (last ≡ 2 ^ p - 1) × Adding (weightIn terms) (termAdds (stride n) l p n cells terms) counts₀ counts i
 
 abbrev μ-loop : tie.MeasureT-loop
 μ-loop l p n cells terms counts₀ last weight from shift i₀ counts i = weight - i
@@ -29,7 +30,7 @@ begun s = s .before .before .before .before .before .before .before .before .bef
 parts : (c : tie.After-shared-slice-known4 Inv-loop μ-loop)
     → let s = c .before in
     let a = begun s .args in
-    let t = place (a .terms .now) (192 + 64 * s .before .before .before .blocks2 .result * a .l + s .before .loop .i) in
+    let t = place (a .terms .now) (termsAt + 64 * s .before .before .before .blocks2 .result * a .l + s .before .loop .i) in
     let d = 2 ^ s .before .before .shift .result in
     Parted (stride (a .n)) (a .n) (a .l) (s .before .loop .i) (a .terms .now) (t / d) (t - t / d * d % 18446744073709551616)
 parts c =

@@ -14,6 +14,7 @@ use Rattle.matrix_terms.proofs.Rows.{Written, written-none, written-mor
 use borrow.Author.Needs.{needs}
 use Rattle.matrix_terms.proofs.list_dual.Statement.{statement}
 use Rattle.matrix_terms.proofs.list_dual.Tie as tie
+use Rattle.matrix_terms.specs.Terms.{termsAt}
 
 abbrev Inv-loop : tie.InvT-loop
 Inv-loop book p n l terms₀ blocks start from stride count₀ h₀ terms count h =
@@ -29,12 +30,12 @@ begun a = a .before .before .before .before
 starts : (a : tie.After-dual-at Inv-loop μ-loop) → a .dual-at .result + 1 ≡ dualAt (width (begun a .args .book .now)) (begun a .args .l) + 1
 starts a = ap (λ (x : ℕ). x + 1) (a .dual-at .ensures)
 
-goes : (a : tie.After-dual-at Inv-loop μ-loop) → 192 + 64 * a .before .blocks2 .result * begun a .args .l ≡ 192 + span (begun a .args .n) * begun a .args .l
-goes a = ap (λ (x : ℕ). 192 + 64 * x * begun a .args .l) (a .before .blocks2 .ensures)
+goes : (a : tie.After-dual-at Inv-loop μ-loop) → termsAt + 64 * a .before .blocks2 .result * begun a .args .l ≡ termsAt + span (begun a .args .n) * begun a .args .l
+goes a = ap (λ (x : ℕ). termsAt + 64 * x * begun a .args .l) (a .before .blocks2 .ensures)
 
 -- the row has a place for each term
 room : (a : tie.After-dual-at Inv-loop μ-loop)
-    → 192 + 64 * a .before .blocks2 .result * begun a .args .l + begun a .args .n ≤ length (begun a .args .terms .now)
+    → termsAt + 64 * a .before .blocks2 .result * begun a .args .l + begun a .args .n ≤ length (begun a .args .terms .now)
 room a = let pre = begun a .pre in omega (arith, goes a, pre .1 .within, blocks-fit (pre .0 .sizes .n-high))
 
 blocks-requires : tie.Need-blocks-requires Inv-loop μ-loop

@@ -11,6 +11,7 @@ use Rattle.matrix_terms.proofs.Summing.{shift-high, row-summands, row-p
 use borrow.Author.Needs.{needs}
 use Rattle.matrix_terms.proofs.product.Statement.{statement}
 use Rattle.matrix_terms.proofs.product.Tie as tie
+use Rattle.matrix_terms.specs.Terms.{termsAt}
 
 abbrev Inv-loop : tie.InvT-loop
 Inv-loop l p n duals terms t w₀ blocks shift from b₀ w b = (b ≤ blocks) × Window 0 (64 * b) (termsSum (128 * blocks) n terms from t) w₀ w
@@ -25,7 +26,7 @@ begun a = a .before .before .before .before .before
 -- the terms of row l, and the rows of the table that they tell
 summands : (a : tie.After-shift Inv-loop μ-loop) →
     Summands (128 * a .before .blocks2 .result) (64 * a .before .blocks2 .result) (begun a .args .n) (begun a .args .terms .now)
-    (192 + 64 * a .before .blocks2 .result * begun a .args .l) (begun a .args .t .now)
+    (termsAt + 64 * a .before .blocks2 .result * begun a .args .l) (begun a .args .t .now)
 summands a = let pre = begun a .pre in row-summands (pre .0) (pre .1) (a .before .blocks2 .ensures) (pre .2)
 
 blocks-requires : tie.Need-blocks-requires Inv-loop μ-loop
