@@ -4,7 +4,6 @@ ghost use Prim.Native.Nat.{_+_, _<_, _≤_};
 ghost use lib.ListN.{length};
 ghost use Rattle.spec_book.specs.Layout.{width, degreeOf, fieldOf, bookOf};
 ghost use Rattle.spec_book.specs.Conditions.{generatorOk};
-ghost use Rattle.sizes.specs.Blocks.{span};
 ghost use Rattle.book.specs.Params.{limitsTest};
 ghost use Rattle.book.specs.Opened.{Gathered};
 use crate::Params;
@@ -30,10 +29,10 @@ pub fn degree(book: &[u8], n: usize) -> usize
     d
 }
 
-// 5: the generator has degree 1 or more and leading coefficient 1, and the remainder of x^n - 1 is zero. t is the table of its multiples; remainder and quotient
-// are left in the caller's buffers.
-fn generator_ok_in(book: &[u8], c: Params, t: &[u8], rest: &mut [u8], quotient: &mut [u8]) -> bool
-    requires { ⌜ Gathered (now book) c (now t) × (c .n + span (c .n) ≤ length (now rest)) × (c .n ≤ length (now quotient)) ⌝ }
+// 5: the generator has degree 1 or more and leading coefficient 1, and the remainder of x^n - 1 is zero. t is the table of its multiples. The buffers go by the
+// length of words: to clear larger ones costs time.
+pub fn generator_ok(book: &[u8], c: Params, t: &[u8]) -> bool
+    requires { ⌜ Gathered (now book) c (now t) ⌝ }
     ensures { λ r. ⌜ r ≡ generatorOk (fieldOf (now (book .entry))) (bookOf (now (book .entry))) ⌝ }
 {
     let d = c.degree;
@@ -44,23 +43,16 @@ fn generator_ok_in(book: &[u8], c: Params, t: &[u8], rest: &mut [u8], quotient: 
     if leading != 1 {
         return false;
     }
-    word_divide::divide_unity(c.p, c.n, d, t, rest, quotient);
-    word_array::is_zero(d, rest)
-}
-
-// The same, with buffers by the length of words: to clear larger ones costs time.
-pub fn generator_ok(book: &[u8], c: Params, t: &[u8]) -> bool
-    requires { ⌜ Gathered (now book) c (now t) ⌝ }
-    ensures { λ r. ⌜ r ≡ generatorOk (fieldOf (now (book .entry))) (bookOf (now (book .entry))) ⌝ }
-{
     if c.n < BLOCK {
         let mut rest = word_divide::short_room();
         let mut quotient = word_divide::short_quotient_room();
-        return generator_ok_in(book, c, t, &mut rest, &mut quotient);
+        word_divide::divide_unity(c.p, c.n, d, t, &mut rest, &mut quotient);
+        return word_array::is_zero(d, &rest);
     }
     let mut rest = word_divide::room();
     let mut quotient = word_divide::quotient_room();
-    generator_ok_in(book, c, t, &mut rest, &mut quotient)
+    word_divide::divide_unity(c.p, c.n, d, t, &mut rest, &mut quotient);
+    word_array::is_zero(d, &rest)
 }
 
 // 6: the most rounds from 1 to 63, the most places from 1 to n.

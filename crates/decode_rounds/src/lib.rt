@@ -2,19 +2,17 @@
 ghost use mathlib.Core.Path.{_≡_};
 ghost use mathlib.Core.Bool.{false};
 ghost use mathlib.Core.List.{List};
-ghost use Prim.Native.Nat.{ℕ, _+_, _≤_};
-ghost use lib.ListN.{length};
+ghost use Prim.Native.Nat.{ℕ};
 ghost use Rattle.spec_book.specs.Layout.{fieldOf, bookOf};
 ghost use Rattle.spec_decoding.specs.Matrix.{matrix};
 ghost use Rattle.spec_decoding.specs.Decode.{decode};
 ghost use Rattle.spec_word.specs.Word.{at};
-ghost use Rattle.sizes.specs.Blocks.{span, stride};
+ghost use Rattle.sizes.specs.Blocks.{stride};
 ghost use Rattle.book.specs.Params.{Describes};
 ghost use Rattle.book.specs.Opened.{OpenBook};
 ghost use Rattle.matrix_terms.specs.Terms.{dualOf, TermsOf};
 ghost use Rattle.decode_rounds.specs.Rounds.{stepOf, listed, allRounds, Prepared, TermsRoom, Countable, Begun, Ready, Received, Stepped, Ended};
 use book::Params;
-use sizes::BLOCK;
 use sizes::Word;
 
 // The kind of answer.
@@ -127,34 +125,6 @@ fn go(c: Params, t: &[u8], terms: &[u16], r: Word, m: &mut [u16], rest: &mut [u8
 }
 
 // Decodes a received word: Clean where its remainder is zero, with a matrix of zeros; else by rounds, before the first of which the terms are listed.
-fn run_in(
-    book: &[u8],
-    c: Params,
-    t: &[u8],
-    terms: &mut [u16],
-    received: &[u8],
-    m: &mut [u16],
-    rest: &mut [u8],
-) -> End
-    requires { ⌜ Received (now book) c (now t) (now terms) (now received) (now m) × (c .n + span (c .n) ≤ length (now rest)) ⌝ }
-    ensures { λ x. ⌜ Ended (now (book .entry)) (decode (fieldOf (now (book .entry))) (bookOf (now (book .entry))) (listed (now (book .entry)) (now (received .entry)))) x
-        (now (m .exit)) × TermsRoom (now (book .entry)) c (now (terms .exit)) ⌝ }
-{
-    let r = word_array::load(received, 0, c.n);
-    word_divide::remainder(c.p, c.n, c.degree, t, received, rest);
-    if word_array::is_zero(c.degree, rest) {
-        matrix::clear(m);
-        return End {
-            kind: Kind::Clean,
-            rounds: 0,
-            word: r,
-        };
-    }
-    matrix_terms::ready(book, c.p, c.n, c.duals, terms);
-    go(c, t, terms, r, m, rest)
-}
-
-// The same with a buffer for the remainders, by the length of words: to clear a larger one costs time.
 pub fn run(
     book: &[u8],
     c: Params,
@@ -167,10 +137,17 @@ pub fn run(
     ensures { λ x. ⌜ Ended (now (book .entry)) (decode (fieldOf (now (book .entry))) (bookOf (now (book .entry))) (listed (now (book .entry)) (now (received .entry)))) x
         (now (m .exit)) × TermsRoom (now (book .entry)) c (now (terms .exit)) ⌝ }
 {
-    if c.n < BLOCK {
-        let mut rest = word_divide::short_room();
-        return run_in(book, c, t, terms, received, m, &mut rest);
-    }
+    let r = word_array::load(received, 0, c.n);
     let mut rest = word_divide::room();
-    run_in(book, c, t, terms, received, m, &mut rest)
+    word_divide::remainder(c.p, c.n, c.degree, t, received, &mut rest);
+    if word_array::is_zero(c.degree, &rest) {
+        matrix::clear(m);
+        return End {
+            kind: Kind::Clean,
+            rounds: 0,
+            word: r,
+        };
+    }
+    matrix_terms::ready(book, c.p, c.n, c.duals, terms);
+    go(c, t, terms, r, m, &mut rest)
 }

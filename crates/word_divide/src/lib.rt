@@ -108,11 +108,6 @@ pub fn remainder(p: u8, n: usize, d: usize, t: &[u8], w: &[u8], v: &mut [u8])
         × (n + span n ≤ length (now v)) ⌝ }
     ensures { λ _. ⌜ Remains p n d (wordOf (stride n) n (now (t .entry))) (place (now (w .entry))) (now (v .exit)) ⌝ }
 {
-    if n < BLOCK {
-        let mut quotient = short_quotient_room();
-        divide(p, n, d, t, w, v, &mut quotient);
-        return;
-    }
     let mut quotient = quotient_room();
     divide(p, n, d, t, w, v, &mut quotient);
 }
