@@ -27,13 +27,13 @@ use Rattle.book_layout.proofs.Sized.{word-sizes}
 use Rattle.matrix_terms.specs.Count.{placeCounts, dualCounts, counted}
 use Rattle.matrix_terms.specs.Terms.{TermsOf, Filling, dualOf}
 use Rattle.matrix_terms.specs.Listed.{Listable}
-use Rattle.spec_decoding.specs.Matrix.{checkValue, entryOf, matrixOf, matrix}
+use Rattle.spec_decoding.specs.Matrix.{checkValue, dualEntry, entryOf, matrixOf, matrix}
 use Rattle.spec_decoding.proofs.Matrix.{check-product}
 use Rattle.matrix.specs.Fill.{Fillable}
 
 -- the matrix by what each dual word counts
 by-duals : (p : ℕ) → FieldLaws (gf p) → (B : Book) (r : ℕ → ℕ) → counted p (B .n) (B .dual) (B .dual-count) r ≡ matrix (gf p) B r
-unfolding matrixOf entryOf checkValue counted dualCounts placeCounts
+unfolding matrixOf entryOf dualEntry checkValue counted dualCounts placeCounts
 by-duals p laws B r =
     table-same (2 ^ p * B .n) (λ k _. fold-cong _+_ 0 (B .dual-count) (λ l _. fold-cong _+_ 0 (B .n) (λ h _.
     ap (λ (x : ℕ). indicator (nonzero (B .dual l h) && eqb (gf p .mul (gf p .inv (B .dual l h)) x) (k / B .n)))

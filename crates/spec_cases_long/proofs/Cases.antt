@@ -10,7 +10,7 @@ use Rattle.spec_word.specs.CyclicCode.{unity}
 use Rattle.spec_book.specs.Layout.{width, degreeOf, bookOf}
 use Rattle.spec_book.specs.Conditions.{lengthFits, lengthOk, kindsOk, sizesOk, bodyOk, symbolsOk, generatorOk, limitsOk, dualOk, dualsOk, distinctOk, bookRefusal, refusal}
 use Rattle.spec_coding.specs.Coder.{encode}
-use Rattle.spec_decoding.specs.Matrix.{checkSum, checkValue, entryOf, matrixOf, cell}
+use Rattle.spec_decoding.specs.Matrix.{checkSum, checkValue, dualEntry, entryOf, matrixOf, cell}
 use Rattle.spec_decoding.specs.Decode.{peak, zeroCount, peakCount, holders, inUpdateSet, correction, emptyUpdateSet, corrected, run, decodeWith}
 use Rattle.spec_cases.specs.Cases.{checks, codes, decodes, AllHold, none, _also_}
 use Rattle.spec_cases_long.specs.Cases.{decodesDamaged, longAccepted, longCases}
@@ -20,5 +20,5 @@ unfolding checks fold table polynomial timesX shiftAdd product W.weight W.produc
 long-accepted = refl also none
 
 pub long-cases-hold : AllHold longCases
-unfolding codes decodes decodesDamaged fold table polynomial timesX shiftAdd product first inverse W.at W.distance W.product before allZero reduce remainder divides width degreeOf bookOf encode checkSum checkValue entryOf matrixOf cell peak zeroCount peakCount holders inUpdateSet correction emptyUpdateSet corrected run decodeWith
+unfolding codes decodes decodesDamaged fold table polynomial timesX shiftAdd product first inverse W.at W.distance W.product before allZero reduce remainder divides width degreeOf bookOf encode checkSum checkValue dualEntry entryOf matrixOf cell peak zeroCount peakCount holders inUpdateSet correction emptyUpdateSet corrected run decodeWith
 long-cases-hold = refl also refl also none

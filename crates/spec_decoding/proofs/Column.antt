@@ -16,27 +16,25 @@ use Rattle.spec_book.specs.Book.{Book, Usable}
 use Rattle.spec_book.specs.Layout.{isLong, fieldOf, bookOf}
 use Rattle.spec_book.specs.Conditions.{refusal}
 use Rattle.spec_book.proofs.Known.{book-accepted, book-laws, n-pos, n-high, n-high-short, duals-high}
-use Rattle.spec_decoding.specs.Matrix.{checkValue, entryOf, entry, matrix, cell}
+use Rattle.spec_decoding.specs.Matrix.{checkValue, dualEntry, entryOf, entry, matrix, cell}
 use Rattle.spec_decoding.proofs.Matrix.{check-below, cell-matrix}
 
 module _ (F : FieldOps) (laws : FieldLaws F) (B : Book) where
   open FieldOps F using (q)
   open Book B using (n, dual-count, dual)
 
-  -- a column adds up to what all the choices add
-  pub column-amounts : (amount : ℕ → ℕ → ℕ → ℕ) (r : ℕ → ℕ) (j : ℕ)
-      → total q (λ i. entryOf F B amount r i j) ≡ total dual-count (λ l. total n (λ h. cond (nonzero (dual l h)) (amount l h j) 0))
-  unfolding entryOf
-  column-amounts amount r j =
-      fold-swap _+_ 0 sums q dual-count (λ i l. total n (λ h. cond (nonzero (dual l h) && eqb (value l h) i) (amount l h j) 0))
-      ∙ fold-cong _+_ 0 dual-count (λ l _.
-      fold-swap _+_ 0 sums q n (λ i h. cond (nonzero (dual l h) && eqb (value l h) i) (amount l h j) 0)
+  -- a column adds up to what all the places of a dual word add
+  pub dual-amounts : (amount : ℕ → ℕ → ℕ) (b r : ℕ → ℕ) (j : ℕ)
+      → total q (λ i. dualEntry F B amount b r i j) ≡ total n (λ h. cond (nonzero (b h)) (amount h j) 0)
+  unfolding dualEntry
+  dual-amounts amount b r j =
+      fold-swap _+_ 0 sums q n (λ i h. cond (nonzero (b h) && eqb (value h) i) (amount h j) 0)
       ∙ fold-cong _+_ 0 n (λ h _.
-      fold-cong _+_ 0 q (λ i _. masked (nonzero (dual l h)) (value l h) i (amount l h j))
-      ∙ fold-pick _+_ 0 sums q (value l h) (check-below F laws B (dual l) r h j) (λ i. cond (nonzero (dual l h)) (amount l h j) 0)))
+      fold-cong _+_ 0 q (λ i _. masked (nonzero (b h)) (value h) i (amount h j))
+      ∙ fold-pick _+_ 0 sums q (value h) (check-below F laws B b r h j) (λ i. cond (nonzero (b h)) (amount h j) 0))
     where
-      value : ℕ → ℕ → ℕ
-      value l h = checkValue F B (dual l) r h j
+      value : ℕ → ℕ
+      value h = checkValue F B b r h j
 
       masked : (b : Bool) (x i a : ℕ) → cond (b && eqb x i) a 0 ≡ cond (eqb i x) (cond b a 0) 0
       masked true x i a = ap (λ (b : Bool). cond b a 0) (same-eqb {a = x} {b = i} {c = i} {d = x} (λ e. sym e) (λ e. sym e))
@@ -45,6 +43,14 @@ module _ (F : FieldOps) (laws : FieldLaws F) (B : Book) where
           go : (b : Bool) → _≡_ {A = ℕ} 0 (cond b 0 0)
           go true = refl
           go false = refl
+
+  -- and over all dual words to what all the choices add
+  pub column-amounts : (amount : ℕ → ℕ → ℕ → ℕ) (r : ℕ → ℕ) (j : ℕ)
+      → total q (λ i. entryOf F B amount r i j) ≡ total dual-count (λ l. total n (λ h. cond (nonzero (dual l h)) (amount l h j) 0))
+  unfolding entryOf
+  column-amounts amount r j =
+      fold-swap _+_ 0 sums q dual-count (λ i l. dualEntry F B (amount l) (dual l) r i j)
+      ∙ fold-cong _+_ 0 dual-count (λ l _. dual-amounts (amount l) (dual l) r j)
 
   pub column-total : Usable F B → (r : ℕ → ℕ) (j : ℕ) → total q (λ i. entry F B r i j) ≡ dual-count * weight n (dual 0)
   unfolding weight

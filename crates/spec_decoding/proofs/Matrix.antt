@@ -19,7 +19,7 @@ use Rattle.spec_word.proofs.Place.{Word, period-mod}
 use Rattle.spec_word.proofs.Product.{Shifted, product-period, product-shifted}
 use Rattle.spec_word.proofs.CyclicCode.{CodeWord, check-zero, n-pos}
 use Rattle.spec_book.specs.Book.{Book, Usable}
-use Rattle.spec_decoding.specs.Matrix.{checkSum, checkValue, entryOf, matrixOf, cell}
+use Rattle.spec_decoding.specs.Matrix.{checkSum, checkValue, dualEntry, entryOf, matrixOf, cell}
 
 -- ---- the check value
 
@@ -62,6 +62,11 @@ module _ (F : FieldOps) (B : Book) (amount : ℕ → ℕ → ℕ → ℕ) where
 
 -- ---- a moved word
 
+-- what each choice adds moves along: at the place j turned by t a choice adds by amount′ what it adds at j by amount
+abbrev pub MovedAmounts : Book → ℕ → (ℕ → ℕ → ℕ → ℕ) → (ℕ → ℕ → ℕ → ℕ) → Type 0
+MovedAmounts B t amount amount′ =
+    (l : ℕ) → l < B .dual-count → (h : ℕ) → h < B .n → (j : ℕ) → j < B .n → amount′ l h ((j + t) % B .n) ≡ amount l h j
+
 module _ (F : FieldOps) (laws : FieldLaws F) (B : Book) (ok : Usable F B) where
   open FieldOps F using (q, add as _⊕_, mul as _⊗_, inv)
   open FieldLaws laws using (add-zero, mul-below)
@@ -101,22 +106,29 @@ module _ (F : FieldOps) (laws : FieldLaws F) (B : Book) (ok : Usable F B) where
     check-at l hl h j =
         period-mod n (checkValue F B (dual l) r′ h) (check-period (dual l) r′-word h) (j + t) ∙ check-shifted l hl h j
 
-    -- whatever each choice adds, as long as it moves along
-    module _ (amount amount′ : ℕ → ℕ → ℕ → ℕ) (amounts : (l h j : ℕ) → amount′ l h ((j + t) % n) ≡ amount l h j) where
-      entry-shifted : {i : ℕ} → i < q → (j : ℕ) → entryOf F B amount′ r′ (c ⊗ i) ((j + t) % n) ≡ entryOf F B amount r i j
+    -- what one dual word adds, whatever each of its places adds, as long as that moves along
+    dual-shifted : (l : ℕ) → l < dual-count → (amount amount′ : ℕ → ℕ → ℕ) {i : ℕ} → i < q
+        → (j : ℕ) → ((h : ℕ) → h < n → amount′ h ((j + t) % n) ≡ amount h j)
+        → dualEntry F B amount′ (dual l) r′ (c ⊗ i) ((j + t) % n) ≡ dualEntry F B amount (dual l) r i j
+    unfolding dualEntry
+    dual-shifted l hl amount amount′ {i} hi j amounts =
+        fold-cong _+_ 0 n (λ h k.
+        ap₂ (λ (b : Bool) (x : ℕ). cond (nonzero (dual l h) && b) x 0)
+        (same-eqb
+        (λ e. mul-cancel F laws c-pos hc (check-below F laws B (dual l) r h j) hi (sym (check-at l hl h j) ∙ e))
+        (λ e. check-at l hl h j ∙ ap (c ⊗_) e))
+        (amounts h k))
+
+    module _ (amount amount′ : ℕ → ℕ → ℕ → ℕ) (amounts : MovedAmounts B t amount amount′) where
+      entry-shifted : {i : ℕ} → i < q → {j : ℕ} → j < n → entryOf F B amount′ r′ (c ⊗ i) ((j + t) % n) ≡ entryOf F B amount r i j
       unfolding entryOf
-      entry-shifted {i} hi j =
-          fold-cong _+_ 0 dual-count (λ l hl. fold-cong _+_ 0 n (λ h _.
-          ap₂ (λ (b : Bool) (x : ℕ). cond (nonzero (dual l h) && b) x 0)
-          (same-eqb
-          (λ e. mul-cancel F laws c-pos hc (check-below F laws B (dual l) r h j) hi (sym (check-at l hl h j) ∙ e))
-          (λ e. check-at l hl h j ∙ ap (c ⊗_) e))
-          (amounts l h j)))
+      entry-shifted hi {j} hj =
+          fold-cong _+_ 0 dual-count (λ l hl. dual-shifted l hl (amount l) (amount′ l) hi j (λ h hh. amounts l hl h hh j hj))
 
       -- the same of the matrices as they are written
       pub matrix-shifted : (i : ℕ) → i < q → (j : ℕ) → j < n
           → cell F B (matrixOf F B amount′ r′) (c ⊗ i) ((j + t) % n) ≡ cell F B (matrixOf F B amount r) i j
       matrix-shifted i hi j l =
           cell-matrix F B amount′ r′ ((j + t) % n) (mul-below c i) pos
-          ∙ ap (entryOf F B amount′ r′ (c ⊗ i)) (mod-mod (j + t) n) ∙ entry-shifted hi j
+          ∙ ap (entryOf F B amount′ r′ (c ⊗ i)) (mod-mod (j + t) n) ∙ entry-shifted hi l
           ∙ ap (entryOf F B amount r i) (sym (mod-eq-of-lt l)) ∙ sym (cell-matrix F B amount r j hi pos)

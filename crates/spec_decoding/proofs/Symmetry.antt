@@ -78,7 +78,7 @@ module _ (F : FieldOps) (laws : FieldLaws F) (B : Book) (ok : Usable F B) where
           → MovedMatrix motion (cell F B (matrix F B (at n w))) (cell F B (matrix F B (at n w′)))
       unfolding motion
       makes w w′ hw hw′ m =
-          matrix-shifted F laws B ok t c-pos hc (list-word hv) code (list-word hw′) (shifted w w′ m) (λ l h j. 1) (λ l h j. 1) (λ l h j. refl)
+          matrix-shifted F laws B ok t c-pos hc (list-word hv) code (list-word hw′) (shifted w w′ m) (λ l h j. 1) (λ l h j. 1) (λ l hl h hh j hj. refl)
 
       -- ---- the moved word itself
 

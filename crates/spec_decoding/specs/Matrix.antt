@@ -24,10 +24,13 @@ module _ (F : FieldOps) (B : Book) where
   unfoldable pub checkValue : (ℕ → ℕ) → (ℕ → ℕ) → ℕ → ℕ → ℕ
   checkValue b r h j = inv (b h) ⊗ checkSum b r h j
 
-  -- SCOPE 4.12: row i, column j: each choice (l, h) with b not zero at h and check value i at j adds `amount l h j`
+  -- SCOPE 4.12: what the dual word b adds in row i, column j: each place h with b not zero at h and check value i at j adds `amount h j`
+  unfoldable pub dualEntry : (ℕ → ℕ → ℕ) → (ℕ → ℕ) → (ℕ → ℕ) → ℕ → ℕ → ℕ
+  dualEntry amount b r i j = total n (λ h. cond (nonzero (b h) && eqb (checkValue b r h j) i) (amount h j) 0)
+
+  -- SCOPE 4.12: row i, column j: what all the dual words add, where the choice (l, h) adds `amount l h j`
   unfoldable pub entryOf : (ℕ → ℕ → ℕ → ℕ) → (ℕ → ℕ) → ℕ → ℕ → ℕ
-  entryOf amount r i j =
-      total dual-count (λ l. total n (λ h. cond (nonzero (dual l h) && eqb (checkValue (dual l) r h j) i) (amount l h j) 0))
+  entryOf amount r i j = total dual-count (λ l. dualEntry (amount l) (dual l) r i j)
 
   -- SCOPE 4.13: the q × n entries, that of row i and column j at i × n + j
   unfoldable pub matrixOf : (ℕ → ℕ → ℕ → ℕ) → (ℕ → ℕ) → List ℕ
