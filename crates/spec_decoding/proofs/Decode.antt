@@ -4,7 +4,7 @@ use mathlib.Core.Path.{_≡_, refl, sym, ap, ap₂, _∙_}
 use mathlib.Core.Bool.{Bool, true, false, not, cond}
 use mathlib.Core.List.{List}
 use Prim.Native.Nat.{ℕ, zero, suc, _+_, _*_, _%_, _<_}
-use native.Mathlib.Nat.{mod-lt}
+use native.Mathlib.Nat.{mod-lt, mod-eq-of-lt}
 use lib.Dec.{eqb}
 use lib.ListN.{getD}
 use lib.Arith.{digits-lt}
@@ -15,12 +15,13 @@ use Rattle.spec_word.specs.Word.{at, distance}
 use Rattle.spec_book.specs.Book.{Book, isCodeWord}
 use Rattle.spec_decoding.specs.Matrix.{cell}
 use Rattle.spec_decoding.specs.Decode.{Kind, Result, choose, correction, emptyUpdateSet, corrected, result, zeroMatrix, run, decodeWith, clean, mended, stalled, spent}
+use Rattle.spec_decoding.specs.Symmetry.{MovedBy}
 use Rattle.spec_range.proofs.Tests.{same-eqb}
 use Rattle.spec_range.proofs.Fold.{fold-cong, fold-permute, sums}
 use Rattle.spec_range.proofs.Table.{table-at}
 use Rattle.spec_field.proofs.Laws.{add-cancel}
 use Rattle.spec_word.proofs.Place.{SymbolList, at-table, table-symbols}
-use Rattle.spec_decoding.proofs.Motion.{Motion, MovedMatrix, MovedWord, symbol-inj}
+use Rattle.spec_decoding.proofs.Motion.{Motion, MovedMatrix, MovedWord, symbol-inj, moved-unique}
 use Rattle.spec_decoding.proofs.Update.{correction-below, correction-moved, empty-moved}
 
 module _ (F : FieldOps) (laws : FieldLaws F) (B : Book) (pos : 0 < B .n) where
@@ -118,70 +119,102 @@ module _ (F : FieldOps) (laws : FieldLaws F) (B : Book) (pos : 0 < B .n) where
 
     module _ (make make′ : (ℕ → ℕ) → List ℕ)
         (makes : (w w′ : List ℕ) → SymbolList F n w → SymbolList F n w′ → Moves w w′ → MovesMatrix (make (at n w)) (make′ (at n w′)))
-        (codes : (w w′ : List ℕ) → SymbolList F n w → SymbolList F n w′ → Moves w w′ → isCodeWord F B (at n w′) ≡ isCodeWord F B (at n w))
-        (r r′ : List ℕ) (hr : SymbolList F n r) (hr′ : SymbolList F n r′) (mr : Moves r r′) where
-      -- the run ends with the word w
-      ended : (o : Kind) (k : ℕ) (w w′ m m′ : List ℕ) → SymbolList F n w → Moves w w′ → MovesMatrix m m′
-          → MovedResult (result F B o k r w m) (result F B o k r′ w′ m′)
-      ended o k w w′ m m′ hw mw mm =
+        (codes : (w w′ : List ℕ) → SymbolList F n w → SymbolList F n w′ → Moves w w′ → isCodeWord F B (at n w′) ≡ isCodeWord F B (at n w)) where
+      module _ (r r′ : List ℕ) (hr : SymbolList F n r) (hr′ : SymbolList F n r′) (mr : Moves r r′) where
+        -- the run ends with the word w
+        ended : (o : Kind) (k : ℕ) (w w′ m m′ : List ℕ) → SymbolList F n w → Moves w w′ → MovesMatrix m m′
+            → MovedResult (result F B o k r w m) (result F B o k r′ w′ m′)
+        ended o k w w′ m m′ hw mw mm =
+            record {
+              same-kind = refl;
+              same-rounds = refl;
+              same-changed = distance-moved w w′ r r′ hw hr mw mr;
+              moved-answer = mw;
+              moved-matrix = mm;
+            }
+
+        run-moved : (left made : ℕ) (w w′ m m′ : List ℕ) → SymbolList F n w → SymbolList F n w′ → Moves w w′ → MovesMatrix m m′
+            → MovedResult (run F B make left made r w m) (run F B make′ left made r′ w′ m′)
+        unfolding run
+        run-moved zero made w w′ m m′ hw hw′ mw mm = ended spent made r r′ m m′ hr mr mm
+        run-moved (suc left) made w w′ _ _ hw hw′ mw _ =
+            choose-moved (emptyUpdateSet F B (cell F B m)) (isCodeWord F B (at n u)) (emptyUpdateSet F B (cell F B m′)) (isCodeWord F B (at n u′))
+            (empty-moved F laws B M (cell F B m) (cell F B m′) mm) (codes u u′ hu hu′ mu)
+            (ended stalled (suc made) r r′ m m′ hr mr mm) (ended mended (suc made) u u′ m m′ hu mu mm)
+            (run-moved left (suc made) u u′ m m′ hu hu′ mu mm)
+          where
+            m : List ℕ
+            m = make (at n w)
+
+            m′ : List ℕ
+            m′ = make′ (at n w′)
+
+            mm : MovesMatrix m m′
+            mm = makes w w′ hw hw′ mw
+
+            u : List ℕ
+            u = corrected F B w m
+
+            u′ : List ℕ
+            u′ = corrected F B w′ m′
+
+            hu : SymbolList F n u
+            hu = corrected-symbols w m hw
+
+            hu′ : SymbolList F n u′
+            hu′ = corrected-symbols w′ m′ hw′
+
+            mu : Moves u u′
+            mu = corrected-moved w w′ m m′ mw mm
+
+        -- the matrix all zero moves to itself
+        zeros-moved : MovesMatrix (zeroMatrix F B) (zeroMatrix F B)
+        unfolding cell
+        zeros-moved i hi j l = zero-at (symbol-lt i hi) (place j) ∙ sym (zero-at hi j)
+          where
+            zero-at : {i : ℕ} → i < q → (j : ℕ) → getD (table (q * n) (λ k. 0)) (i * n + j % n) 0 ≡ 0
+            zero-at hi j = table-at (q * n) (λ k. 0) (digits-lt hi (mod-lt j pos))
+
+        pub decode-moved : MovedResult (decodeWith F B make r) (decodeWith F B make′ r′)
+        unfolding decodeWith
+        decode-moved = rw (codes r r′ hr hr′ mr) (go (isCodeWord F B (at n r)))
+          where
+            zeros : List ℕ
+            zeros = zeroMatrix F B
+
+            go : (b : Bool) → MovedResult (cond b (result F B clean 0 r r zeros) (run F B make most-rounds 0 r r zeros))
+                (cond b (result F B clean 0 r′ r′ zeros) (run F B make′ most-rounds 0 r′ r′ zeros))
+            go true = ended clean 0 r r′ zeros zeros hr mr zeros-moved
+            go false = run-moved most-rounds 0 r r′ zeros zeros hr hr′ mr zeros-moved
+
+      -- where `word` moves words, the result for the moved word is the result for the word, moved
+      pub decode-moved-by : (word : List ℕ → List ℕ)
+          → ((w : List ℕ) → SymbolList F n w → SymbolList F n (word w)) → ((w : List ℕ) → SymbolList F n w → Moves w (word w))
+          → (r : List ℕ) → SymbolList F n r → MovedBy F B place symbol word (decodeWith F B make r) (decodeWith F B make′ (word r))
+      decode-moved-by word word-symbols word-moves r hr =
           record {
-            same-kind = refl;
-            same-rounds = refl;
-            same-changed = distance-moved w w′ r r′ hw hr mw mr;
-            moved-answer = mw;
-            moved-matrix = mm;
+            same-kind = moved .same-kind;
+            same-rounds = moved .same-rounds;
+            same-changed = moved .same-changed;
+            moved-answer =
+                moved-unique M v (at n (x .answer)) (y .answer) (word (x .answer)) (decode-answer make′ (word r) (word-symbols r hr))
+                (word-symbols (x .answer) answer) (moved .moved-answer) (word-moves (x .answer) answer);
+            moved-entries = λ i j hi l.
+                ap (λ (k : ℕ). getD (y .entries) (symbol i * n + k) 0) (sym (mod-eq-of-lt (place-lt j l))) ∙ cells i j hi l
+                ∙ ap (λ (k : ℕ). getD (x .entries) (i * n + k) 0) (mod-eq-of-lt l);
           }
-
-      run-moved : (left made : ℕ) (w w′ m m′ : List ℕ) → SymbolList F n w → SymbolList F n w′ → Moves w w′ → MovesMatrix m m′
-          → MovedResult (run F B make left made r w m) (run F B make′ left made r′ w′ m′)
-      unfolding run
-      run-moved zero made w w′ m m′ hw hw′ mw mm = ended spent made r r′ m m′ hr mr mm
-      run-moved (suc left) made w w′ _ _ hw hw′ mw _ =
-          choose-moved (emptyUpdateSet F B (cell F B m)) (isCodeWord F B (at n u)) (emptyUpdateSet F B (cell F B m′)) (isCodeWord F B (at n u′))
-          (empty-moved F laws B M (cell F B m) (cell F B m′) mm) (codes u u′ hu hu′ mu)
-          (ended stalled (suc made) r r′ m m′ hr mr mm) (ended mended (suc made) u u′ m m′ hu mu mm)
-          (run-moved left (suc made) u u′ m m′ hu hu′ mu mm)
         where
-          m : List ℕ
-          m = make (at n w)
+          x : Result
+          x = decodeWith F B make r
 
-          m′ : List ℕ
-          m′ = make′ (at n w′)
+          y : Result
+          y = decodeWith F B make′ (word r)
 
-          mm : MovesMatrix m m′
-          mm = makes w w′ hw hw′ mw
+          moved : MovedResult x y
+          moved = decode-moved r (word r) hr (word-symbols r hr) (word-moves r hr)
 
-          u : List ℕ
-          u = corrected F B w m
+          answer : SymbolList F n (x .answer)
+          answer = decode-answer make r hr
 
-          u′ : List ℕ
-          u′ = corrected F B w′ m′
-
-          hu : SymbolList F n u
-          hu = corrected-symbols w m hw
-
-          hu′ : SymbolList F n u′
-          hu′ = corrected-symbols w′ m′ hw′
-
-          mu : Moves u u′
-          mu = corrected-moved w w′ m m′ mw mm
-
-      -- the matrix all zero moves to itself
-      zeros-moved : MovesMatrix (zeroMatrix F B) (zeroMatrix F B)
-      unfolding cell
-      zeros-moved i hi j l = zero-at (symbol-lt i hi) (place j) ∙ sym (zero-at hi j)
-        where
-          zero-at : {i : ℕ} → i < q → (j : ℕ) → getD (table (q * n) (λ k. 0)) (i * n + j % n) 0 ≡ 0
-          zero-at hi j = table-at (q * n) (λ k. 0) (digits-lt hi (mod-lt j pos))
-
-      pub decode-moved : MovedResult (decodeWith F B make r) (decodeWith F B make′ r′)
-      unfolding decodeWith
-      decode-moved = rw (codes r r′ hr hr′ mr) (go (isCodeWord F B (at n r)))
-        where
-          zeros : List ℕ
-          zeros = zeroMatrix F B
-
-          go : (b : Bool) → MovedResult (cond b (result F B clean 0 r r zeros) (run F B make most-rounds 0 r r zeros))
-              (cond b (result F B clean 0 r′ r′ zeros) (run F B make′ most-rounds 0 r′ r′ zeros))
-          go true = ended clean 0 r r′ zeros zeros hr mr zeros-moved
-          go false = run-moved most-rounds 0 r r′ zeros zeros hr hr′ mr zeros-moved
+          cells : (i j : ℕ) → i < q → j < n → getD (y .entries) (symbol i * n + place j % n) 0 ≡ getD (x .entries) (i * n + j % n) 0
+          cells i j hi l = unfold cell in moved .moved-matrix i hi j l

@@ -1,8 +1,13 @@
 -- A motion of words: a permutation of the places and an additive permutation of the symbols. Turning and multiplying is one; squaring is another.
 -- Assumes nothing.
-use mathlib.Core.Path.{_≡_, sym, ap, _∙_}
+use mathlib.Core.Path.{_≡_, sym, ap, _∙_, subst}
+use mathlib.Core.List.{List}
 use Prim.Native.Nat.{ℕ, _<_}
+use lib.ListN.{getD}
+use lib.Seq.{ext-getD}
 use Rattle.spec_field.specs.Field.{FieldOps}
+use Rattle.spec_word.specs.Word.{at}
+use Rattle.spec_word.proofs.Place.{SymbolList, at-lt}
 
 pub record Motion (F : FieldOps) (n : ℕ) : Type 0 where
   pub place : ℕ → ℕ
@@ -31,3 +36,14 @@ module _ {F : FieldOps} {n : ℕ} (M : Motion F n) where
   -- w′ is w moved, and with v added
   abbrev pub MovedWord : (ℕ → ℕ) → (ℕ → ℕ) → (ℕ → ℕ) → Type 0
   MovedWord v w w′ = (j : ℕ) → j < n → w′ (M .place j) ≡ F .add (M .symbol (w j)) (v (M .place j))
+
+  -- the places of a moved word determine it
+  pub moved-unique : (v : ℕ → ℕ) (w : ℕ → ℕ) (a b : List ℕ) → SymbolList F n a → SymbolList F n b
+      → MovedWord v w (at n a) → MovedWord v w (at n b) → a ≡ b
+  moved-unique v w a b ha hb ma mb =
+      ext-getD 0 a b (ha .exact ∙ sym (hb .exact)) (λ k l. same k (subst (λ (x : ℕ). k < x) (ha .exact) l))
+    where
+      same : (k : ℕ) → k < n → getD a k 0 ≡ getD b k 0
+      same k l =
+          sym (at-lt n a l) ∙ ap (at n a) (sym (M .place-unplace k l)) ∙ ma (M .unplace k) (M .unplace-lt k l)
+          ∙ sym (mb (M .unplace k) (M .unplace-lt k l)) ∙ ap (at n b) (M .place-unplace k l) ∙ at-lt n b l

@@ -1,26 +1,24 @@
 -- Demand 3 of the definitions: decoding a word that is turned, multiplied and moved by a code word.
 -- Assumes nothing.
-use mathlib.Core.Path.{_≡_, refl, sym, ap, ap₂, _∙_, subst}
+use mathlib.Core.Path.{_≡_, refl, sym, ap, ap₂, _∙_}
 use mathlib.Core.List.{List}
-use Prim.Native.Nat.{ℕ, _+_, _-_, _*_, _%_, _<_}
+use Prim.Native.Nat.{ℕ, _+_, _-_, _%_, _<_}
 use native.Mathlib.Nat.{mod-lt, mod-mod, mod-add-mod, mod-eq-of-lt}
 use lib.Dec.{T}
-use lib.ListN.{getD}
-use lib.Seq.{ext-getD}
 use Rattle.spec_field.specs.Field.{FieldOps, FieldLaws}
 use Rattle.spec_word.specs.Word.{at, turn, scale, plus}
 use Rattle.spec_book.specs.Book.{Book, Usable, isCodeWord}
 use Rattle.spec_decoding.specs.Matrix.{matrix, cell}
-use Rattle.spec_decoding.specs.Decode.{Result, decode}
+use Rattle.spec_decoding.specs.Decode.{decode}
 use Rattle.spec_decoding.specs.Symmetry.{move, Moved}
 use Rattle.spec_field.proofs.Laws as L
-use Rattle.spec_word.proofs.Place.{SymbolList, list-word, turn-back, turn-on, at-same, at-lt, at-table, at-scaled-turn, table-symbols, scaled-symbols}
+use Rattle.spec_word.proofs.Place.{SymbolList, list-word, turn-back, turn-on, at-same, at-table, at-scaled-turn, table-symbols, scaled-symbols}
 use Rattle.spec_word.proofs.Product.{Shifted}
 use Rattle.spec_word.proofs.Division.{divided-of}
 use Rattle.spec_word.proofs.CyclicCode.{CodeWord, n-pos, divides-shifted}
 use Rattle.spec_decoding.proofs.Matrix.{matrix-shifted}
 use Rattle.spec_decoding.proofs.Motion.{Motion, MovedMatrix, MovedWord}
-use Rattle.spec_decoding.proofs.Decode.{MovedResult, decode-answer, decode-moved}
+use Rattle.spec_decoding.proofs.Decode.{decode-moved-by}
 
 module _ (F : FieldOps) (laws : FieldLaws F) (B : Book) (ok : Usable F B) where
   open FieldOps F using (q, add as _⊕_, mul as _⊗_, inv)
@@ -94,47 +92,8 @@ module _ (F : FieldOps) (laws : FieldLaws F) (B : Book) (ok : Usable F B) where
           at-table n (λ k. at n (scale F n c (turn n t w)) k ⊕ at n v k) (mod-lt (j + t) pos)
           ∙ ap (_⊕ at n v ((j + t) % n)) (at-scaled-turn F n c t w pos j)
 
-      -- the places of a moved word determine it
-      moves-unique : (w a b : List ℕ) → SymbolList F n a → SymbolList F n b → Moves w a → Moves w b → a ≡ b
-      unfolding motion
-      moves-unique w a b ha hb ma mb =
-          ext-getD 0 a b (ha .exact ∙ sym (hb .exact)) (λ k l. same k (subst (λ (x : ℕ). k < x) (ha .exact) l))
-        where
-          back : ℕ → ℕ
-          back k = (k + (n - t % n)) % n
-
-          same : (k : ℕ) → k < n → getD a k 0 ≡ getD b k 0
-          same k l =
-              sym (at-lt n a l) ∙ ap (at n a) (sym (motion .place-unplace k l)) ∙ ma (back k) (mod-lt (k + (n - t % n)) pos)
-              ∙ sym (mb (back k) (mod-lt (k + (n - t % n)) pos)) ∙ ap (at n b) (motion .place-unplace k l) ∙ at-lt n b l
-
       -- demand 3
       pub symmetry : (r : List ℕ) → SymbolList F n r → Moved F B t c v (decode F B r) (decode F B (move F n t c v r))
-      unfolding motion cell
+      unfolding motion
       symmetry r hr =
-          record {
-            same-kind = result .same-kind;
-            same-rounds = result .same-rounds;
-            same-changed = result .same-changed;
-            moved-answer =
-                moves-unique (x .answer) (y .answer) (move F n t c v (x .answer)) (decode-answer F laws B pos (matrix F B) r′ hr′)
-                (move-symbols (x .answer)) (result .moved-answer) (move-moves (x .answer));
-            moved-entries = λ i j hi l.
-                ap (λ (k : ℕ). getD (y .entries) (c ⊗ i * n + k) 0) (sym (mod-mod (j + t) n)) ∙ result .moved-matrix i hi j l
-                ∙ ap (λ (k : ℕ). getD (x .entries) (i * n + k) 0) (mod-eq-of-lt l);
-          }
-        where
-          r′ : List ℕ
-          r′ = move F n t c v r
-
-          hr′ : SymbolList F n r′
-          hr′ = move-symbols r
-
-          x : Result
-          x = decode F B r
-
-          y : Result
-          y = decode F B r′
-
-          result : MovedResult F laws B pos motion (at n v) x y
-          result = decode-moved F laws B pos motion (at n v) (matrix F B) (matrix F B) makes codes r r′ hr hr′ (move-moves r)
+          decode-moved-by F laws B pos motion (at n v) (matrix F B) (matrix F B) makes codes (move F n t c v) (λ w _. move-symbols w) (λ w _. move-moves w) r hr

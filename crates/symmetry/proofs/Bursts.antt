@@ -16,7 +16,7 @@ use Rattle.spec_book.specs.Layout.{fieldOf, bookOf}
 use Rattle.spec_book.specs.Conditions.{refusal, wordsOk}
 use Rattle.spec_book.proofs.Inputs.{words-low}
 use Rattle.spec_decoding.specs.Decode.{Result}
-use Rattle.spec_decoding.specs.Symmetry.{move, Moved}
+use Rattle.spec_decoding.specs.Symmetry.{move, MovedBy, Moved}
 use Rattle.spec_decoding.proofs.Demand3.{moved-word, answer-word, demand-3}
 use Rattle.spec_operations.specs.Decoding.{decodeBytes}
 use Rattle.spec_operations.specs.Burst.{burstInputRefusal, burstRefusal, burstWord, recordOf, Bursts}
@@ -67,7 +67,8 @@ shows {words = words} {x = x} {answers₀ = answers₀} {entries₀ = entries₀
 
 -- ---- two bursts
 
-same-record : {F : FieldOps} {B : Book} {t c : ℕ} {v : List ℕ} {x y : Result} → Moved F B t c v x y → recordOf y ≡ recordOf x
+same-record : {F : FieldOps} {B : Book} {place symbol : ℕ → ℕ} {word : List ℕ → List ℕ} {x y : Result}
+    → MovedBy F B place symbol word x y → recordOf y ≡ recordOf x
 same-record h = rw (h .same-kind, h .same-rounds, h .same-changed) refl
 
 pub related-bursts : (bytes : List ℕ) (words : ℕ) (r r′ answers₀ answers₀′ entries₀ entries₀′ : List ℕ) (list list′ : ℕ)
