@@ -1,6 +1,6 @@
--- Demand 3 of the definitions: decoding a word that is turned, multiplied and moved by a code word.
+-- Demand 3 of the definitions: decoding a word that is turned, multiplied and moved by a code word, whatever each choice adds to its entry.
 -- Assumes nothing.
-use mathlib.Core.Path.{_≡_, refl, sym, ap, ap₂, _∙_}
+use mathlib.Core.Path.{_≡_, sym, ap, ap₂, _∙_}
 use mathlib.Core.List.{List}
 use Prim.Native.Nat.{ℕ, _+_, _-_, _%_, _<_}
 use native.Mathlib.Nat.{mod-lt, mod-mod, mod-add-mod, mod-eq-of-lt}
@@ -8,15 +8,15 @@ use lib.Dec.{T}
 use Rattle.spec_field.specs.Field.{FieldOps, FieldLaws}
 use Rattle.spec_word.specs.Word.{at, turn, scale, plus}
 use Rattle.spec_book.specs.Book.{Book, Usable, isCodeWord}
-use Rattle.spec_decoding.specs.Matrix.{matrix, cell}
-use Rattle.spec_decoding.specs.Decode.{decode}
+use Rattle.spec_decoding.specs.Matrix.{matrixOf, cell}
+use Rattle.spec_decoding.specs.Decode.{decodeWith}
 use Rattle.spec_decoding.specs.Symmetry.{move, Moved}
 use Rattle.spec_field.proofs.Laws as L
 use Rattle.spec_word.proofs.Place.{SymbolList, list-word, turn-back, turn-on, at-same, at-table, at-scaled-turn, table-symbols, scaled-symbols}
 use Rattle.spec_word.proofs.Product.{Shifted}
 use Rattle.spec_word.proofs.Division.{divided-of}
 use Rattle.spec_word.proofs.CyclicCode.{CodeWord, n-pos, divides-shifted}
-use Rattle.spec_decoding.proofs.Matrix.{matrix-shifted}
+use Rattle.spec_decoding.proofs.Matrix.{MovedAmounts, matrix-shifted}
 use Rattle.spec_decoding.proofs.Motion.{Motion, MovedMatrix, MovedWord}
 use Rattle.spec_decoding.proofs.Decode.{decode-moved-by}
 
@@ -72,11 +72,12 @@ module _ (F : FieldOps) (laws : FieldLaws F) (B : Book) (ok : Usable F B) where
       codes : (w w′ : List ℕ) → SymbolList F n w → SymbolList F n w′ → Moves w w′ → isCodeWord F B (at n w′) ≡ isCodeWord F B (at n w)
       codes w w′ hw hw′ m = divides-shifted F laws n degree generator generates t c-pos hc (list-word hv) code (list-word hw) (list-word hw′) (shifted w w′ m)
 
-      makes : (w w′ : List ℕ) → SymbolList F n w → SymbolList F n w′ → Moves w w′
-          → MovedMatrix motion (cell F B (matrix F B (at n w))) (cell F B (matrix F B (at n w′)))
+      makes : (amount amount′ : ℕ → ℕ → ℕ → ℕ) → MovedAmounts B t amount amount′
+          → (w w′ : List ℕ) → SymbolList F n w → SymbolList F n w′ → Moves w w′
+          → MovedMatrix motion (cell F B (matrixOf F B amount (at n w))) (cell F B (matrixOf F B amount′ (at n w′)))
       unfolding motion
-      makes w w′ hw hw′ m =
-          matrix-shifted F laws B ok t c-pos hc (list-word hv) code (list-word hw′) (shifted w w′ m) (λ l h j. 1) (λ l h j. 1) (λ l hl h hh j hj. refl)
+      makes amount amount′ amounts w w′ hw hw′ m =
+          matrix-shifted F laws B ok t c-pos hc (list-word hv) code (list-word hw′) (shifted w w′ m) amount amount′ amounts
 
       -- ---- the moved word itself
 
@@ -92,8 +93,10 @@ module _ (F : FieldOps) (laws : FieldLaws F) (B : Book) (ok : Usable F B) where
           at-table n (λ k. at n (scale F n c (turn n t w)) k ⊕ at n v k) (mod-lt (j + t) pos)
           ∙ ap (_⊕ at n v ((j + t) % n)) (at-scaled-turn F n c t w pos j)
 
-      -- demand 3
-      pub symmetry : (r : List ℕ) → SymbolList F n r → Moved F B t c v (decode F B r) (decode F B (move F n t c v r))
+      -- demand 3 whatever the choices add, as long as what they add moves along
+      pub symmetry-amounts : (amount amount′ : ℕ → ℕ → ℕ → ℕ) → MovedAmounts B t amount amount′ → (r : List ℕ) → SymbolList F n r
+          → Moved F B t c v (decodeWith F B (matrixOf F B amount) r) (decodeWith F B (matrixOf F B amount′) (move F n t c v r))
       unfolding motion
-      symmetry r hr =
-          decode-moved-by F laws B pos motion (at n v) (matrix F B) (matrix F B) makes codes (move F n t c v) (λ w _. move-symbols w) (λ w _. move-moves w) r hr
+      symmetry-amounts amount amount′ amounts r hr =
+          decode-moved-by F laws B pos motion (at n v) (matrixOf F B amount) (matrixOf F B amount′) (makes amount amount′ amounts) codes
+          (move F n t c v) (λ w _. move-symbols w) (λ w _. move-moves w) r hr
