@@ -1,6 +1,7 @@
 pub mod Xor
 pub mod ShiftAdd
 pub mod Laws
+pub mod Map
 pub mod Computed
 pub mod First
 pub mod Power

@@ -1,4 +1,5 @@
 pub mod Field
+pub mod Map
 pub mod Symbols
 pub mod Answer
 pub mod Operations

@@ -146,7 +146,25 @@ module _ {A : Type 0} (op : A → A → A) (e : A) where
             ∙ unit-left (fold op e n (λ k. cond (eqb (suc k) 0) e (f (suc k))))
             ∙ fold-cong n (λ k l. ap (λ (b : Bool). cond b e (f (suc k))) (ne-eqb (suc k) 0 (suc-ne-zero k)))
 
--- the operations folded
+-- ---- values that the operation keeps, and a map that goes through it
+
+module _ {A : Type 0} (op : A → A → A) (e : A) (Kept : A → Type 0) (unit : Kept e) (keeps : (a b : A) → Kept a → Kept b → Kept (op a b)) where
+  pub fold-kept : (n : ℕ) (f : ℕ → A) → ((i : ℕ) → i < n → Kept (f i)) → Kept (fold op e n f)
+  unfolding fold
+  fold-kept zero f h = unit
+  fold-kept (suc n) f h = keeps (fold op e n f) (f n) (fold-kept n f (λ i l. h i (le-step l))) (h n (le-refl (suc n)))
+
+  -- what goes through the operation goes through a fold, into another operation too
+  pub fold-map : {B : Type 0} (op′ : B → B → B) (e′ : B) (φ : A → B) → φ e ≡ e′ → ((a b : A) → Kept a → Kept b → φ (op a b) ≡ op′ (φ a) (φ b))
+      → (n : ℕ) (f : ℕ → A) → ((i : ℕ) → i < n → Kept (f i)) → φ (fold op e n f) ≡ fold op′ e′ n (λ i. φ (f i))
+  unfolding fold
+  fold-map op′ e′ φ z m zero f h = z
+  fold-map {B} op′ e′ φ z m (suc n) f h =
+      m (fold op e n f) (f n) (fold-kept n f (λ i l. h i (le-step l))) (h n (le-refl (suc n)))
+      ∙ ap (λ (x : B). op′ x (φ (f n))) (fold-map op′ e′ φ z m n f (λ i l. h i (le-step l)))
+
+-- ---- the operations folded
+
 pub sums : CommutativeMonoid _+_ 0
 sums = record { assoc = add-assoc; comm = add-comm; unit = add-zero }
 

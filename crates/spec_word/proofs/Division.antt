@@ -54,7 +54,7 @@ unfolding unity
 unity-inside n j l =
     ap₂ (λ (a b : Bool). cond (a || b) 1 0) (ne-eqb (suc j) 0 (omega arith)) (ne-eqb (suc j) n (omega arith))
 
-unity-le : (n j : ℕ) → unity n j < 2
+pub unity-le : (n j : ℕ) → unity n j < 2
 unfolding unity
 unity-le n j = go (eqb j 0 || eqb j n)
   where
@@ -83,7 +83,7 @@ module _ (F : FieldOps) (d : ℕ) (g : ℕ → ℕ) where
 
     infixl 60 _⊕_
     infixl 70 _⊗_
-    before-below : (a : ℕ) (R : ℕ → ℕ) → a < q → Symbols F R → Symbols F (before a R)
+    pub before-below : (a : ℕ) (R : ℕ → ℕ) → a < q → Symbols F R → Symbols F (before a R)
     unfolding before
     before-below a R ha hR zero = ha
     before-below a R ha hR (suc i) = hR i

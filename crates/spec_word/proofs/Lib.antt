@@ -4,6 +4,7 @@ pub mod Product
 pub mod Division
 pub mod Quotient
 pub mod Unique
+pub mod Mapped
 pub mod CyclicCode
 pub mod Alike
 pub mod Lanes

@@ -1,10 +1,10 @@
 -- Sums of many symbols.
 -- Assumes nothing.
-use mathlib.Core.Path.{_≡_, ap, _∙_}
-use Prim.Native.Nat.{ℕ, zero, suc, _<_}
-use native.Mathlib.Nat.{le-step, le-refl}
-use Rattle.spec_range.specs.Fold.{fold}
-use Rattle.spec_range.proofs.Fold.{CommutativeMonoid}
+use mathlib.Core.Path.{_≡_}
+use mathlib.Core.Bool.{true}
+use Prim.Native.Nat.{ℕ, _<_}
+use lib.Dec.{T}
+use Rattle.spec_range.proofs.Fold.{CommutativeMonoid, fold-kept, fold-map}
 use Rattle.spec_field.specs.Field.{FieldOps, FieldLaws}
 use Rattle.spec_field.proofs.Laws.{zero-below}
 use Rattle.spec_word.specs.Word.{sum}
@@ -23,16 +23,12 @@ module _ (F : FieldOps) (laws : FieldLaws F) where
   field-sums = record { assoc = add-assoc; comm = add-comm; unit = add-zero }
 
   pub sum-below : (n : ℕ) (f : ℕ → ℕ) → ((i : ℕ) → i < n → f i < q) → sum F n f < q
-  unfolding fold
-  sum-below zero f h = zero-below F laws
-  sum-below (suc n) f h = add-below (sum F n f) (f n) (sum-below n f (λ i l. h i (le-step l))) (h n (le-refl (suc n)))
+  sum-below = fold-kept _⊕_ 0 (λ (a : ℕ). a < q) (zero-below F laws) add-below
 
   -- a sum goes through whatever goes through a sum of two
   pub additive-sum : (φ : ℕ → ℕ) → φ 0 ≡ 0 → ((a b : ℕ) → φ (a ⊕ b) ≡ φ a ⊕ φ b)
       → (n : ℕ) (f : ℕ → ℕ) → φ (sum F n f) ≡ sum F n (λ i. φ (f i))
-  unfolding fold
-  additive-sum φ z h zero f = z
-  additive-sum φ z h (suc n) f = h (sum F n f) (f n) ∙ ap (_⊕ φ (f n)) (additive-sum φ z h n f)
+  additive-sum φ z h n f = fold-map _⊕_ 0 (λ (a : ℕ). T true) tt (λ a b _ _. tt) _⊕_ 0 φ z (λ a b _ _. h a b) n f (λ i l. tt)
 
   pub mul-sum : (c n : ℕ) (f : ℕ → ℕ) → c ⊗ sum F n f ≡ sum F n (λ i. c ⊗ f i)
   mul-sum c = additive-sum (c ⊗_) (mul-zero c) (mul-add c)
