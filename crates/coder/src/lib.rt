@@ -11,10 +11,6 @@ use book::Opened;
 use book::Params;
 use refusals::Done;
 
-pub mod short;
-pub mod sorting;
-pub mod trips;
-
 // Code a message of 1 to k symbols into a word of n.
 pub fn code(book: &[u8], message: &[u8], word: &mut [u8]) -> Done
     ensures { λ r. ⌜ Wrote (codeRefusal (now (book .entry)) (now (message .entry)) (length (now (word .entry))))

@@ -1,9 +1,9 @@
--- `coder::trips::code_then_read` meets its contract.
+-- `coder_trips::trips::code_then_read` meets its contract.
 -- Assumes nothing.
 use Rattle.spec_operations.proofs.Trips.{code-then-read}
 use borrow.Author.Needs.{needs}
-use Rattle.coder.proofs.trips.code_then_read.Statement.{statement}
-use Rattle.coder.proofs.trips.code_then_read.Tie as tie
+use Rattle.coder_trips.proofs.trips.code_then_read.Statement.{statement}
+use Rattle.coder_trips.proofs.trips.code_then_read.Tie as tie
 
 code-requires : tie.Need-code-requires
 code-requires c κs = search needs

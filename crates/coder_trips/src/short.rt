@@ -22,8 +22,8 @@ pub fn code_twice(
     ensures { λ r. ⌜ (GivenWrittenOut (now (book .entry)) (now (message .entry)) (now (whole .entry)) (length (now (first .entry))) (length (now (second .entry)))
         → SameWord (said (r .first)) (said (r .second)) (now (first .exit)) (now (second .exit))) ⌝ }
 {
-    let a = crate::code(book, message, first);
-    let b = crate::code(book, whole, second);
+    let a = coder::code(book, message, first);
+    let b = coder::code(book, whole, second);
     Both {
         first: a,
         second: b,

@@ -1,9 +1,9 @@
--- `coder::short::code_twice` meets its contract.
+-- `coder_trips::short::code_twice` meets its contract.
 -- Assumes nothing.
 use Rattle.spec_operations.proofs.Short.{same-word}
 use borrow.Author.Needs.{needs}
-use Rattle.coder.proofs.short.code_twice.Statement.{statement}
-use Rattle.coder.proofs.short.code_twice.Tie as tie
+use Rattle.coder_trips.proofs.short.code_twice.Statement.{statement}
+use Rattle.coder_trips.proofs.short.code_twice.Tie as tie
 
 code-requires : tie.Need-code-requires
 code-requires c κs = search needs

@@ -1,9 +1,9 @@
--- `coder::trips::read_then_code` meets its contract.
+-- `coder_trips::trips::read_then_code` meets its contract.
 -- Assumes nothing.
 use Rattle.spec_operations.proofs.Trips.{read-then-code}
 use borrow.Author.Needs.{needs}
-use Rattle.coder.proofs.trips.read_then_code.Statement.{statement}
-use Rattle.coder.proofs.trips.read_then_code.Tie as tie
+use Rattle.coder_trips.proofs.trips.read_then_code.Statement.{statement}
+use Rattle.coder_trips.proofs.trips.read_then_code.Tie as tie
 
 read-requires : tie.Need-read-requires
 read-requires c κs = search needs

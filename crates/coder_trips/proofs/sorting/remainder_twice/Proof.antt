@@ -1,9 +1,9 @@
--- `coder::sorting::remainder_twice` meets its contract.
+-- `coder_trips::sorting::remainder_twice` meets its contract.
 -- Assumes nothing.
 use Rattle.spec_operations.proofs.Remainder.{sorted}
 use borrow.Author.Needs.{needs}
-use Rattle.coder.proofs.sorting.remainder_twice.Statement.{statement}
-use Rattle.coder.proofs.sorting.remainder_twice.Tie as tie
+use Rattle.coder_trips.proofs.sorting.remainder_twice.Statement.{statement}
+use Rattle.coder_trips.proofs.sorting.remainder_twice.Tie as tie
 
 remainder-requires : tie.Need-remainder-requires
 remainder-requires c κs = search needs

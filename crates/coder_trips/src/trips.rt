@@ -27,8 +27,8 @@ pub fn code_then_read(book: &[u8], message: &[u8], word: &mut [u8], back: &mut [
         → length (now (back .entry)) ≡ messageLength (bookOf (now (book .entry)))
         → GivenBack (said (r .first)) (said (r .second)) (writtenOut (bookOf (now (book .entry))) (now (message .entry))) (now (back .exit))) ⌝ }
 {
-    let first = crate::code(book, message, word);
-    let second = crate::read(book, word, back);
+    let first = coder::code(book, message, word);
+    let second = coder::read(book, word, back);
     Both { first, second }
 }
 
@@ -42,7 +42,7 @@ pub fn read_then_code(book: &[u8], word: &[u8], message: &mut [u8], back: &mut [
         → length (now (back .entry)) ≡ bookOf (now (book .entry)) .n
         → GivenBack (said (r .first)) (said (r .second)) (now (word .entry)) (now (back .exit))) ⌝ }
 {
-    let first = crate::read(book, word, message);
-    let second = crate::code(book, message, back);
+    let first = coder::read(book, word, message);
+    let second = coder::code(book, message, back);
     Both { first, second }
 }

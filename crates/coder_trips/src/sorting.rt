@@ -22,8 +22,8 @@ pub fn remainder_twice(
     ensures { λ r. ⌜ (GivenTwo (now (book .entry)) (now (one .entry)) (now (two .entry)) (length (now (first .entry))) (length (now (second .entry)))
         → Sorted (now (book .entry)) (now (one .entry)) (now (two .entry)) (said (r .first)) (said (r .second)) (now (first .exit)) (now (second .exit))) ⌝ }
 {
-    let a = crate::remainder(book, one, first);
-    let b = crate::remainder(book, two, second);
+    let a = coder::remainder(book, one, first);
+    let b = coder::remainder(book, two, second);
     Both {
         first: a,
         second: b,
