@@ -11,5 +11,5 @@ pub extern "C" fn matrix_probe(book: &[u8], received: &[u8], entries: &mut [u16]
         [] (matrixBytes (now (book .entry)) (now (received .entry))) (now (entries .entry)) r (now (entries .exit)) ⌝ }
 {
     let done: Done = decode::matrix(book, received, entries);
-    shiftsum::pack_done(done)
+    packing::pack_done(done)
 }

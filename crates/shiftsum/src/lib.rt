@@ -11,69 +11,17 @@ ghost use Rattle.spec_operations.specs.Decoding.{matrixSize, decodeRefusal, dec
 ghost use Rattle.spec_operations.specs.Burst.{burstRefusal, burstWord, ReturnsBurst};
 ghost use Rattle.spec_operations.specs.Game.{gameRefusal, gameHeld, gameValues, gameMessages};
 ghost use Rattle.spec_operations.specs.Packed.{resultOf, Returns};
-ghost use Rattle.refusals.specs.Said as done;
-ghost use Rattle.book.specs.Params as checks;
 ghost use Rattle.book.specs.Opened.{fewSymbols};
-ghost use Rattle.decode.specs.Decoded as decodes;
 ghost use Rattle.burst.specs.Said.{listBytes};
-ghost use Rattle.game.specs.Said as games;
 ghost use Rattle.shiftsum.specs.Made.{Made};
 ghost use Rattle.spec_operations.specs.Version.{version};
-use book::Checked;
 use burst::Burst;
 use burst::Record;
 use burst::record_at;
-use decode::Decoded;
-use game::Game;
 use refusals::Done;
 use sizes::FEW_MATRIX;
 use sizes::LONG_FEW_MATRIX;
 use sizes::MATRIX;
-
-// The result of a check.
-fn pack_checked(r: Checked) -> u32
-    ensures { λ x. ⌜ x ≡ resultOf (checks.said r) ⌝ }
-{
-    match r {
-        Checked::Accepted(count) => 256 * (count as u32),
-        Checked::Refused(number) => number as u32,
-    }
-}
-
-// The result of an operation that writes one buffer.
-pub fn pack_done(r: Done) -> u32
-    ensures { λ x. ⌜ x ≡ resultOf (done.said r) ⌝ }
-{
-    match r {
-        Done::Made => 0,
-        Done::Refused(number) => number as u32,
-    }
-}
-
-// The result of decode.
-fn pack_decoded(r: Decoded) -> u32
-    ensures { λ x. ⌜ x ≡ resultOf (decodes.said r) ⌝ }
-{
-    match r {
-        Decoded::Answered(kind, rounds, changed) => {
-            256 * (changed as u32)
-                + 65536 * (rounds as u32)
-                + 16777216 * (decode::letter(kind) as u32)
-        }
-        Decoded::Refused(number) => number as u32,
-    }
-}
-
-// The result of a game: how many words are held, and the letter, W or H.
-fn pack_game(r: Game) -> u32
-    ensures { λ x. ⌜ x ≡ resultOf (games.said r) ⌝ }
-{
-    match r {
-        Game::Whole => 16777216 * (b'W' as u32),
-        Game::Held(count) => 256 * (count as u32) + 16777216 * (b'H' as u32),
-        Game::Refused(number) => number as u32,
-    }
-}
 
 // Tell the version.
 #[no_mangle]
@@ -88,7 +36,7 @@ pub extern "C" fn shiftsum_version() -> u32
 pub extern "C" fn shiftsum_check(book: &[u8]) -> u32
     ensures { λ r. ⌜ r ≡ resultOf (checkAnswer (now (book .entry))) ⌝ }
 {
-    pack_checked(book::check(book))
+    packing::pack_checked(book::check(book))
 }
 
 // Code a message.
@@ -97,7 +45,8 @@ pub extern "C" fn shiftsum_code(book: &[u8], message: &[u8], word: &mut [u8]) ->
     ensures { λ r. ⌜ Returns (codeRefusal (now (book .entry)) (now (message .entry)) (length (now (word .entry))))
         [] (coded (now (book .entry)) (now (message .entry))) (now (word .entry)) r (now (word .exit)) ⌝ }
 {
-    pack_done(coder::code(book, message, word))
+    let done: Done = coder::code(book, message, word);
+    packing::pack_done(done)
 }
 
 // Read a code word.
@@ -106,7 +55,8 @@ pub extern "C" fn shiftsum_read(book: &[u8], word: &[u8], message: &mut [u8]) ->
     ensures { λ r. ⌜ Returns (readRefusal (now (book .entry)) (now (word .entry)) (length (now (message .entry))))
         [] (messageOf (now (book .entry)) (now (word .entry))) (now (message .entry)) r (now (message .exit)) ⌝ }
 {
-    pack_done(coder::read(book, word, message))
+    let done: Done = coder::read(book, word, message);
+    packing::pack_done(done)
 }
 
 // Write the remainder of a word.
@@ -115,7 +65,8 @@ pub extern "C" fn shiftsum_remainder(book: &[u8], word: &[u8], remainder: &mut [
     ensures { λ r. ⌜ Returns (remainderRefusal (now (book .entry)) (now (word .entry)) (length (now (remainder .entry))))
         [] (remainderOf (now (book .entry)) (now (word .entry))) (now (remainder .entry)) r (now (remainder .exit)) ⌝ }
 {
-    pack_done(coder::remainder(book, word, remainder))
+    let done: Done = coder::remainder(book, word, remainder);
+    packing::pack_done(done)
 }
 
 // Rooms for a matrix: the largest, that of few symbols in a short book, and in a long one. Only the length matters: every entry is written before it is read.
@@ -147,7 +98,7 @@ fn decode_few(book: &[u8], received: &[u8], answer: &mut [u8]) -> u32
 {
     let size = book::matrix_size(book);
     let mut room = few_room();
-    pack_decoded(decode::decode_short(book, received, answer, &mut room[..size]))
+    packing::pack_decoded(decode::decode_short(book, received, answer, &mut room[..size]))
 }
 
 // The same by any short book.
@@ -159,7 +110,7 @@ fn decode_short(book: &[u8], received: &[u8], answer: &mut [u8]) -> u32
 {
     let size = book::matrix_size(book);
     let mut room = matrix_room();
-    pack_decoded(decode::decode_short(book, received, answer, &mut room[..size]))
+    packing::pack_decoded(decode::decode_short(book, received, answer, &mut room[..size]))
 }
 
 // The same by a long book with few symbols.
@@ -171,7 +122,7 @@ fn decode_long_few(book: &[u8], received: &[u8], answer: &mut [u8]) -> u32
 {
     let size = book::matrix_size(book);
     let mut room = long_few_room();
-    pack_decoded(decode::decode_long(book, received, answer, &mut room[..size]))
+    packing::pack_decoded(decode::decode_long(book, received, answer, &mut room[..size]))
 }
 
 // The same by any book.
@@ -182,7 +133,7 @@ fn decode_long(book: &[u8], received: &[u8], answer: &mut [u8]) -> u32
 {
     let size = book::matrix_size(book);
     let mut room = matrix_room();
-    pack_decoded(decode::decode_long(book, received, answer, &mut room[..size]))
+    packing::pack_decoded(decode::decode_long(book, received, answer, &mut room[..size]))
 }
 
 // Decode a received word. The matrix is of the exact size, so refusal 10 tells of the answer alone. No room is larger than the book asks: to clear it costs time.
@@ -307,5 +258,5 @@ pub extern "C" fn shiftsum_game(
         (gameValues (gameHeld (now (book .entry)) words (now (received .entry))))
         (gameMessages (now (book .entry)) words (now (received .entry)) (now (messages .entry))) (now (messages .entry)) r (now (messages .exit)) ⌝ }
 {
-    pack_game(game::take(book, words, received, messages))
+    packing::pack_game(game::take(book, words, received, messages))
 }

@@ -1,9 +1,9 @@
--- `shiftsum::pack_game` meets its contract.
+-- `packing::pack_game` meets its contract.
 -- Assumes nothing.
 use native.Mathlib.Omega.{arith}
 use borrow.Author.Needs.{needs}
-use Rattle.shiftsum.proofs.pack_game.Statement.{statement}
-use Rattle.shiftsum.proofs.pack_game.Tie as tie
+use Rattle.packing.proofs.pack_game.Statement.{statement}
+use Rattle.packing.proofs.pack_game.Tie as tie
 
 enum-told : tie.Need-enum-told
 enum-told c = search needs

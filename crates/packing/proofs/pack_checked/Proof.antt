@@ -1,9 +1,9 @@
--- `shiftsum::pack_checked` meets its contract.
+-- `packing::pack_checked` meets its contract.
 -- Assumes nothing.
 use native.Mathlib.Omega.{arith}
 use borrow.Author.Needs.{needs}
-use Rattle.shiftsum.proofs.pack_checked.Statement.{statement}
-use Rattle.shiftsum.proofs.pack_checked.Tie as tie
+use Rattle.packing.proofs.pack_checked.Statement.{statement}
+use Rattle.packing.proofs.pack_checked.Tie as tie
 
 enum-known-r : tie.Need-enum-known-r
 enum-known-r c = search needs
