@@ -4,9 +4,9 @@ use mathlib.Core.Path.{_≡_}
 use mathlib.Core.List.{List}
 use Prim.Native.Nat.{ℕ}
 use lib.ListN.{length}
-use Rattle.stream.specs.declared.State.{State}
-use Rattle.stream.specs.State.{Sound}
-use Rattle.stream.specs.Stepping.{Rooms}
+use Rattle.stream_state.specs.declared.State.{State}
+use Rattle.stream_state.specs.State.{Sound}
+use Rattle.stream_state.specs.Stepping.{Rooms}
 
 -- the state and the rooms are as a step asks, and the rooms for a piece and its text have kept their lengths
 pub record Running (input₀ output₀ t terms answer entries input output : List ℕ) (s : State) : Type 0 where

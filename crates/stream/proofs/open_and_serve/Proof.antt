@@ -3,7 +3,7 @@
 use native.Mathlib.Omega.{arith}
 use lib.ListN.{length-drop}
 use denote.Ref.{now}
-use Rattle.stream.proofs.Taking.{rest-is}
+use Rattle.stream_state.proofs.Pieces.{rest-is}
 use Rattle.stream.proofs.Passing.{steps-all, steps-over, steps-then}
 use borrow.Author.Needs.{needs}
 use Rattle.stream.proofs.open_and_serve.Statement.{statement}
