@@ -38,7 +38,7 @@ check-time:
 # Longer than in the gate, as in make fuzz FUZZ_SECONDS=3600.
 FUZZ_SECONDS = 600
 fuzz:
-	@$(RT) staticlib shiftsum
+	@RT='$(RT)' QUIET=1 package/build shiftsum
 	@FUZZ_SECONDS=$(FUZZ_SECONDS) tests/fuzz/run
 
 # Times against C, as ratios; no test.
@@ -49,12 +49,9 @@ bench: build
 curves:
 	@curves/run
 
-# rt proves and compiles again only what has changed.
+# Only what has changed since it was built; one line where nothing has, none with -s.
 build:
-	@package/progress $(RT) staticlib shiftsum
-	@package/progress $(RT) check decode_stream
-	mkdir -p target/bin
-	$(CC) -std=c11 $(CFLAGS) -Wall -Wextra -pedantic -Iinclude command/*.c $(archive) -o $(command)
+	@RT='$(RT)' CC='$(CC)' CFLAGS='$(CFLAGS)' QUIET='$(findstring s,$(firstword -$(MAKEFLAGS)))' package/build
 
 install: build
 	@$(MAKE) --no-print-directory put
