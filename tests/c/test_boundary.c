@@ -119,8 +119,6 @@ static size_t symbols(uint8_t *word, const char *digits)
     return len;
 }
 
-typedef uint32_t (*function)(const uint8_t *, size_t, const uint8_t *, size_t, uint8_t *, size_t);
-
 /* An output of so many bytes between guards. */
 static uint8_t *lay(size_t len)
 {
@@ -147,49 +145,156 @@ static void expect_lent(const char *name, const char *what, uint8_t *lent, const
     take_back(lent);
 }
 
-/* Calls, and compares result and output with what is expected; an output expected to be NULL must be as it was. */
-static void call(const char *name, function called, const uint8_t *book, size_t book_len, const uint8_t *input, size_t input_len,
-                 const uint8_t *output, size_t output_len, uint32_t result)
-{
-    uint8_t *lent_book = lend(book, book_len), *lent_input = lend(input, input_len), *written = lay(output_len);
-    expect_number(name, "the result", called(lent_book, book_len, lent_input, input_len, written, output_len), result);
-    expect_output(name, "the output", written, output, output_len);
-    expect_lent(name, "the codebook after the call", lent_book, book, book_len);
-    expect_lent(name, "the input after the call", lent_input, input, input_len);
-}
+enum { INPUTS = 2, OUTPUTS = 2 };
 
-/* The arguments of a burst, answers and records being those that are expected, or NULL where they must be as they were. */
-struct burst {
+/* A call: its number, such as M; its inputs; of each output the bytes that are expected, or NULL where it must be as it was. Lengths are those that
+ * the function is given. */
+struct call {
     const uint8_t *book;
     size_t book_len;
-    uint32_t words;
-    const uint8_t *received;
-    size_t received_len;
-    const uint8_t *answers;
-    size_t answers_len;
-    const struct shiftsum_record *records;
-    size_t records_len;
+    uint32_t number;
+    const uint8_t *input[INPUTS];
+    size_t input_len[INPUTS];
+    const uint8_t *output[OUTPUTS];
+    size_t output_len[OUTPUTS];
 };
 
-/* The same for a burst, which has two outputs. */
-static void call_burst(const char *name, struct burst burst, uint32_t result)
+/* The functions in one form: what is written comes beside the call. */
+typedef uint32_t (*adapter)(const struct call *c, uint8_t *const *output);
+
+static uint32_t call_check(const struct call *c, uint8_t *const *output)
 {
-    const size_t list_len = burst.records_len * sizeof *burst.records;
-    uint8_t *book = lend(burst.book, burst.book_len), *received = lend(burst.received, burst.received_len);
-    uint8_t *answers = lay(burst.answers_len), *list = lay(list_len);
-    struct shiftsum_record *records = (struct shiftsum_record *)list;
-    expect_number(name, "the result",
-                  shiftsum_burst(book, burst.book_len, burst.words, received, burst.received_len, answers, burst.answers_len, records,
-                                 burst.records_len),
-                  result);
-    expect_output(name, "the answers", answers, burst.answers, burst.answers_len);
-    expect_output(name, "the list", list, (const uint8_t *)burst.records, list_len);
-    expect_lent(name, "the codebook after the call", book, burst.book, burst.book_len);
-    expect_lent(name, "the input after the call", received, burst.received, burst.received_len);
+    (void)output;
+    return shiftsum_check(c->book, c->book_len);
+}
+
+static uint32_t call_code(const struct call *c, uint8_t *const *output)
+{
+    return shiftsum_code(c->book, c->book_len, c->input[0], c->input_len[0], output[0], c->output_len[0]);
+}
+
+static uint32_t call_read(const struct call *c, uint8_t *const *output)
+{
+    return shiftsum_read(c->book, c->book_len, c->input[0], c->input_len[0], output[0], c->output_len[0]);
+}
+
+static uint32_t call_remainder(const struct call *c, uint8_t *const *output)
+{
+    return shiftsum_remainder(c->book, c->book_len, c->input[0], c->input_len[0], output[0], c->output_len[0]);
+}
+
+static uint32_t call_decode(const struct call *c, uint8_t *const *output)
+{
+    return shiftsum_decode(c->book, c->book_len, c->input[0], c->input_len[0], output[0], c->output_len[0]);
+}
+
+static uint32_t call_burst(const struct call *c, uint8_t *const *output)
+{
+    struct shiftsum_record *records = (struct shiftsum_record *)output[1];
+    return shiftsum_burst(c->book, c->book_len, c->number, c->input[0], c->input_len[0], output[0], c->output_len[0], records, c->output_len[1]);
+}
+
+static uint32_t call_game(const struct call *c, uint8_t *const *output)
+{
+    return shiftsum_game(c->book, c->book_len, c->number, c->input[0], c->input_len[0], output[0], c->output_len[0]);
+}
+
+/* How many elements a buffer has, by n, k and M; TO_K is any count from 1 to k. */
+enum size { NONE, OF_N, OF_K, TO_K, OF_REST, N_TIMES_M, K_TIMES_M, OF_M };
+
+static size_t size_of(enum size size, size_t n, size_t k, size_t words)
+{
+    const size_t sizes[] = {0, n, k, k, n - k, n * words, k * words, words};
+    return sizes[size];
+}
+
+/* A buffer of a function: the bytes of an element, the refusal of another length, and that of a symbol of q or more, 0 where there is none. */
+struct buffer {
+    const char *name;
+    enum size size;
+    size_t element;
+    uint32_t length_refusal, symbol_refusal;
+};
+
+#define NO_BUFFER {NULL, NONE, 1, 0, 0}
+
+/* A row for each function. Refusals come in the order number, inputs, outputs, symbols. */
+enum { CHECK, CODE, READ, REMAINDER, DECODE, BURST, GAME, FUNCTIONS };
+static const struct function {
+    const char *name;
+    adapter call;
+    uint32_t number_refusal; /* 0 where it has no number */
+    struct buffer input[INPUTS], output[OUTPUTS];
+} functions[FUNCTIONS] = {
+    {"check", call_check, 0, {NO_BUFFER}, {NO_BUFFER}},
+    {"code", call_code, 0, {{"message", TO_K, 1, 9, 11}}, {{"word", OF_N, 1, 10, 0}}},
+    {"read", call_read, 0, {{"word", OF_N, 1, 9, 11}}, {{"message", OF_K, 1, 10, 0}}},
+    {"remainder", call_remainder, 0, {{"word", OF_N, 1, 9, 11}}, {{"remainder", OF_REST, 1, 10, 0}}},
+    {"decode", call_decode, 0, {{"word", OF_N, 1, 9, 11}}, {{"answer", OF_N, 1, 10, 0}}},
+    {"burst", call_burst, 14, {{"words", N_TIMES_M, 1, 9, 11}},
+     {{"answers", N_TIMES_M, 1, 10, 0}, {"list", OF_M, sizeof(struct shiftsum_record), 10, 0}}},
+    {"game", call_game, 14, {{"words", N_TIMES_M, 1, 9, 11}}, {{"messages", K_TIMES_M, 1, 10, 0}}},
+};
+
+/* What a test says of a call, good until the next one. */
+static const char *of_call(int which, const char *what, const char *buffer)
+{
+    static char text[64];
+    snprintf(text, sizeof text, "%s, %s%s", functions[which].name, what, buffer);
+    return text;
+}
+
+/* Calls, and compares result and outputs with what is expected, and codebook and inputs with what they were. */
+static void run(const char *name, int which, struct call call, uint32_t result)
+{
+    const struct function *f = &functions[which];
+    struct call lent = call;
+    uint8_t *book = lend(call.book, call.book_len), *input[INPUTS], *output[OUTPUTS];
+    int i;
+    lent.book = book;
+    for (i = 0; i < INPUTS && f->input[i].size != NONE; i++)
+        lent.input[i] = input[i] = lend(call.input[i], call.input_len[i]);
+    for (i = 0; i < OUTPUTS && f->output[i].size != NONE; i++)
+        output[i] = lay(call.output_len[i] * f->output[i].element);
+    expect_number(name, of_call(which, "the result", ""), f->call(&lent, output), result);
+    for (i = 0; i < OUTPUTS && f->output[i].size != NONE; i++)
+        expect_output(name, of_call(which, "the ", f->output[i].name), output[i], call.output[i], call.output_len[i] * f->output[i].element);
+    expect_lent(name, of_call(which, "the codebook after the call", ""), book, call.book, call.book_len);
+    for (i = 0; i < INPUTS && f->input[i].size != NONE; i++)
+        expect_lent(name, of_call(which, "after the call the ", f->input[i].name), input[i], call.input[i], call.input_len[i]);
+}
+
+/* A call with one input and one output. */
+static struct call one_by_one(uint32_t number, const uint8_t *book, size_t book_len, const uint8_t *input, size_t input_len, const uint8_t *output,
+                              size_t output_len)
+{
+    const struct call made = {book, book_len, number, {input}, {input_len}, {output}, {output_len}};
+    return made;
+}
+
+static void call(const char *name, int which, const uint8_t *book, size_t book_len, const uint8_t *input, size_t input_len, const uint8_t *output,
+                 size_t output_len, uint32_t result)
+{
+    run(name, which, one_by_one(0, book, book_len, input, input_len, output, output_len), result);
+}
+
+/* A call of game. */
+static void call_words(const char *name, uint32_t words, const uint8_t *book, size_t book_len, const uint8_t *received, size_t received_len,
+                       const uint8_t *messages, size_t messages_len, uint32_t result)
+{
+    run(name, GAME, one_by_one(words, book, book_len, received, received_len, messages, messages_len), result);
+}
+
+/* A call of burst: answers and records are those that are expected, or NULL where they must be as they were. */
+static struct call of_burst(const uint8_t *book, size_t book_len, uint32_t words, const uint8_t *received, size_t received_len, const uint8_t *answers,
+                            size_t answers_len, const struct shiftsum_record *records, size_t records_len)
+{
+    const struct call made = {book, book_len, words, {received}, {received_len}, {answers, (const uint8_t *)records}, {answers_len, records_len}};
+    return made;
 }
 
 /* The same with input and output as digits, for an accepted call. */
-static void gives(const char *name, function called, const uint8_t *book, const char *input, const char *output, uint32_t result)
+static void gives(const char *name, int called, const uint8_t *book, const char *input, const char *output, uint32_t result)
 {
     uint8_t in[LARGEST], out[LARGEST];
     size_t in_len = symbols(in, input);
@@ -198,7 +303,7 @@ static void gives(const char *name, function called, const uint8_t *book, const 
 }
 
 /* The same for a refused call. */
-static void refuses(const char *name, function called, const uint8_t *book, const char *input, size_t output_len, uint32_t number)
+static void refuses(const char *name, int called, const uint8_t *book, const char *input, size_t output_len, uint32_t number)
 {
     uint8_t in[LARGEST];
     size_t in_len = symbols(in, input);
@@ -211,8 +316,7 @@ static void gives_burst(const char *name, const uint8_t *book, uint32_t words, c
 {
     uint8_t in[LARGEST], out[LARGEST];
     const size_t in_len = symbols(in, mixed), out_len = symbols(out, answers);
-    const struct burst burst = {book, BOOK, words, in, in_len, out, out_len, records, words};
-    call_burst(name, burst, 0);
+    run(name, BURST, of_burst(book, BOOK, words, in, in_len, out, out_len, records, words), 0);
 }
 
 /* The same for one that is refused. */
@@ -221,8 +325,7 @@ static void refuses_burst(const char *name, const uint8_t *book, uint32_t words,
 {
     uint8_t in[LARGEST];
     const size_t in_len = symbols(in, mixed);
-    const struct burst burst = {book, BOOK, words, in, in_len, NULL, answers_len, NULL, records_len};
-    call_burst(name, burst, number);
+    run(name, BURST, of_burst(book, BOOK, words, in, in_len, NULL, answers_len, NULL, records_len), number);
 }
 
 /* The result of decode, put together from its parts. */
@@ -237,14 +340,6 @@ static uint32_t taken(unsigned held)
     return (uint32_t)(unsigned char)(held > 0 ? SHIFTSUM_HELD : SHIFTSUM_WHOLE) << 24 | (uint32_t)held << 8;
 }
 
-/* Game in the form of the others: M stands beside. */
-static uint32_t words_given;
-
-static uint32_t game(const uint8_t *book, size_t book_len, const uint8_t *received, size_t received_len, uint8_t *messages, size_t messages_len)
-{
-    return shiftsum_game(book, book_len, words_given, received, received_len, messages, messages_len);
-}
-
 /* A game with a codebook of one dual word, its symbols as digits, that is accepted. Of one that is Held the messages expected are NULL. */
 static void takes(const char *name, const uint8_t *book, uint32_t words, const char *mixed, const uint8_t *messages, size_t len, unsigned held)
 {
@@ -254,8 +349,7 @@ static void takes(const char *name, const uint8_t *book, uint32_t words, const c
     expect_number(name, "the refusal", SHIFTSUM_REFUSAL(result), 0);
     expect_number(name, "the kind", (unsigned char)SHIFTSUM_KIND(result), held > 0 ? SHIFTSUM_HELD : SHIFTSUM_WHOLE);
     expect_number(name, "the count of words held", SHIFTSUM_HELD_WORDS(result), held);
-    words_given = words;
-    call(name, game, book, BOOK, in, in_len, messages, len, taken(held));
+    call_words(name, words, book, BOOK, in, in_len, messages, len, taken(held));
 }
 
 static void whole_game(const char *name, const uint8_t *book, uint32_t words, const char *mixed, const char *messages)
@@ -274,8 +368,9 @@ static void held_game(const char *name, const uint8_t *book, uint32_t words, con
 /* A game that is refused. */
 static void refuses_game(const char *name, const uint8_t *book, uint32_t words, const char *mixed, size_t messages_len, uint32_t number)
 {
-    words_given = words;
-    refuses(name, game, book, mixed, messages_len, number);
+    uint8_t in[LARGEST];
+    const size_t in_len = symbols(in, mixed);
+    call_words(name, words, book, BOOK, in, in_len, NULL, messages_len, number);
 }
 
 static void decodes(const char *name, const uint8_t *book, const char *received, char kind, unsigned rounds, unsigned changed, const char *answer)
@@ -287,19 +382,19 @@ static void decodes(const char *name, const uint8_t *book, const char *received,
     expect_number(name, "the kind", (unsigned char)SHIFTSUM_KIND(result), (unsigned char)kind);
     expect_number(name, "the count of rounds", SHIFTSUM_ROUNDS(result), rounds);
     expect_number(name, "the count of places changed", SHIFTSUM_CHANGED(result), changed);
-    gives(name, shiftsum_decode, book, received, answer, decoded(kind, rounds, changed));
+    gives(name, DECODE, book, received, answer, decoded(kind, rounds, changed));
 }
 
 static void codes(const char *name, const uint8_t *book, const char *message, const char *word)
 {
-    gives(name, shiftsum_code, book, message, word, 0);
-    gives(name, shiftsum_read, book, word, message, 0);
+    gives(name, CODE, book, message, word, 0);
+    gives(name, READ, book, word, message, 0);
 }
 
 /* A short message: its missing high symbols are zero, so that it has the word of the full one, which is the one that read gives. */
 static void codes_short(const char *name, const uint8_t *book, const char *message, const char *full, const char *word)
 {
-    gives(name, shiftsum_code, book, message, word, 0);
+    gives(name, CODE, book, message, word, 0);
     codes(name, book, full, word);
 }
 
@@ -308,7 +403,7 @@ static void leaves(const char *name, const uint8_t *book, const char *word, cons
 {
     uint8_t in[LARGEST], message[LARGEST];
     size_t len = symbols(in, word);
-    gives(name, shiftsum_remainder, book, word, rest, 0);
+    gives(name, REMAINDER, book, word, rest, 0);
     expect_number(name, "the result of read", shiftsum_read(book, BOOK, in, len, message, k), strspn(rest, "0") == strlen(rest) ? 0 : 12);
 }
 
@@ -483,37 +578,40 @@ static void test_game(void)
     held_game("Spent, Stalled and Clean", with(book_b, AT_D, 3), 3, "312" "122" "102", 1, 2);
     memset(in, 0, sizeof in);
     memset(in, 1, WORDS);
-    words_given = WORDS;
-    call("case 6, 16 times", game, book_a, BOOK, in, WORDS * WORD_A, in + WORDS, WORDS * MESSAGE_A, taken(0));
-    call("case 9, 16 times", game, with(book_a, AT_D, 7), BOOK, in, WORDS * WORD_A, NULL, WORDS * MESSAGE_A, taken(WORDS));
+    call_words("case 6, 16 times", WORDS, book_a, BOOK, in, WORDS * WORD_A, in + WORDS, WORDS * MESSAGE_A, taken(0));
+    call_words("case 9, 16 times", WORDS, with(book_a, AT_D, 7), BOOK, in, WORDS * WORD_A, NULL, WORDS * MESSAGE_A, taken(WORDS));
 }
 
-/* A refused codebook is refused by every function, whatever the call is else. */
+/* A call with inputs of these symbols, as many as are right for n, k and M, whose outputs must stay as they were. */
+static struct call refused_call(int which, const uint8_t *book, size_t book_len, const uint8_t *from, size_t n, size_t k, uint32_t words)
+{
+    struct call made = {book, book_len, words, {from, from}, {0}, {NULL}, {0}};
+    int i;
+    for (i = 0; i < INPUTS; i++)
+        made.input_len[i] = size_of(functions[which].input[i].size, n, k, words);
+    for (i = 0; i < OUTPUTS; i++)
+        made.output_len[i] = size_of(functions[which].output[i].size, n, k, words);
+    return made;
+}
+
+/* A refused codebook is refused by every function, whatever the call is else: all right for book A, all wrong, and of no bytes. */
 static void refused(const char *name, const uint8_t *book, size_t book_len, uint32_t number)
 {
-    uint8_t message[MESSAGE_A], word[WORD_A], bad[WORD_A];
-    const struct burst good_burst = {book, book_len, 1, word, WORD_A, NULL, WORD_A, NULL, 1};
-    const struct burst bad_burst = {book, book_len, 17, bad, WORD_A, NULL, WORD_A + 1, NULL, 3};
-    uint8_t *lent = lend(book, book_len);
-    symbols(message, "1000");
+    uint8_t word[WORD_A], bad[WORD_A];
+    int which, i;
     symbols(word, "1101000");
     symbols(bad, "2000000");
-    expect_number(name, "the result of check", shiftsum_check(lent, book_len), number);
-    expect_bytes(name, "the codebook after check", lent, book, book_len);
-    take_back(lent);
-    call(name, shiftsum_code, book, book_len, message, MESSAGE_A, NULL, WORD_A, number);
-    call(name, shiftsum_read, book, book_len, word, WORD_A, NULL, MESSAGE_A, number);
-    call(name, shiftsum_remainder, book, book_len, word, WORD_A, NULL, REMAINDER_A, number);
-    call(name, shiftsum_remainder, book, book_len, bad, WORD_A, NULL, REMAINDER_A + 1, number);
-    call(name, shiftsum_decode, book, book_len, word, WORD_A, NULL, WORD_A, number);
-    call(name, shiftsum_decode, book, book_len, bad, WORD_A - 1, NULL, WORD_A + 1, number);
-    call(name, shiftsum_code, book, book_len, message, 0, NULL, 0, number);
-    call_burst(name, good_burst, number);
-    call_burst(name, bad_burst, number);
-    words_given = 1;
-    call(name, game, book, book_len, word, WORD_A, NULL, MESSAGE_A, number);
-    words_given = 17;
-    call(name, game, book, book_len, bad, WORD_A, NULL, MESSAGE_A + 1, number);
+    for (which = 0; which < FUNCTIONS; which++) {
+        struct call wrong = refused_call(which, book, book_len, bad, WORD_A, MESSAGE_A, 1);
+        run(name, which, refused_call(which, book, book_len, word, WORD_A, MESSAGE_A, 1), number);
+        for (i = 0; i < INPUTS && functions[which].input[i].size != NONE; i++)
+            wrong.input_len[i]--;
+        for (i = 0; i < OUTPUTS; i++)
+            wrong.output_len[i]++;
+        wrong.number = 17;
+        run(name, which, wrong, number);
+        run(name, which, refused_call(which, book, book_len, bad, 0, 0, 0), number);
+    }
 }
 
 static void test_refused_codebooks(void)
@@ -559,63 +657,63 @@ static void test_alike_dual_words(void)
 
 static void test_refused_calls(void)
 {
-    refuses("refusal 9: code 5 symbols", shiftsum_code, book_a, "10000", WORD_A, 9);
-    refuses("refusal 9: code no symbols", shiftsum_code, book_a, "", WORD_A, 9);
-    refuses("refusal 9: read 6 symbols", shiftsum_read, book_a, "110100", MESSAGE_A, 9);
-    refuses("refusal 9: the remainder of 6 symbols", shiftsum_remainder, book_a, "110100", REMAINDER_A, 9);
-    refuses("refusal 9: the remainder of 8 symbols", shiftsum_remainder, book_a, "11010000", REMAINDER_A, 9);
-    refuses("refusal 9: the remainder of no symbols", shiftsum_remainder, book_a, "", REMAINDER_A, 9);
-    refuses("refusal 9: decode 8 symbols", shiftsum_decode, book_a, "11010000", WORD_A, 9);
-    refuses("refusal 9: decode no symbols", shiftsum_decode, book_a, "", WORD_A, 9);
-    refuses("refusal 10: a word of 6", shiftsum_code, book_a, "1000", 6, 10);
-    refuses("refusal 10: a word of 8", shiftsum_code, book_a, "1000", 8, 10);
-    refuses("refusal 10: a message of 3", shiftsum_read, book_a, "1101000", 3, 10);
-    refuses("refusal 10: a message of 7", shiftsum_read, book_a, "1101000", 7, 10);
-    refuses("refusal 10: a remainder of 2", shiftsum_remainder, book_a, "1000000", 2, 10);
-    refuses("refusal 10: a remainder of 4", shiftsum_remainder, book_a, "1000000", 4, 10);
-    refuses("refusal 10: a remainder of 7", shiftsum_remainder, book_a, "1101000", 7, 10);
-    refuses("refusal 10: a remainder of 0", shiftsum_remainder, book_a, "1101000", 0, 10);
-    refuses("refusal 10: a remainder of 63", shiftsum_remainder, book_a, "1000000", 63, 10);
-    refuses("refusal 10: an answer of 6", shiftsum_decode, book_a, "1000000", 6, 10);
-    refuses("refusal 10: an answer of 0", shiftsum_decode, book_a, "1000000", 0, 10);
-    refuses("refusal 10: an answer of 63", shiftsum_decode, book_a, "1000000", 63, 10);
-    refuses("refusal 11: code 0002", shiftsum_code, book_a, "0002", WORD_A, 11);
-    refuses("refusal 11: read 2000000", shiftsum_read, book_a, "2000000", MESSAGE_A, 11);
-    refuses("refusal 11: the remainder of 2000000", shiftsum_remainder, book_a, "2000000", REMAINDER_A, 11);
-    refuses("refusal 11: the remainder of 1101002", shiftsum_remainder, book_a, "1101002", REMAINDER_A, 11);
-    refuses("refusal 11: the remainder of 114", shiftsum_remainder, book_b, "114", 2, 11);
-    refuses("refusal 11: decode 2000000", shiftsum_decode, book_a, "2000000", WORD_A, 11);
-    refuses("refusal 11: decode 114", shiftsum_decode, book_b, "114", 3, 11);
-    refuses("refusal 12: read 1000000", shiftsum_read, book_a, "1000000", MESSAGE_A, 12);
-    refuses("refusal 12: read 120", shiftsum_read, book_b, "120", 1, 12);
+    refuses("refusal 9: code 5 symbols", CODE, book_a, "10000", WORD_A, 9);
+    refuses("refusal 9: code no symbols", CODE, book_a, "", WORD_A, 9);
+    refuses("refusal 9: read 6 symbols", READ, book_a, "110100", MESSAGE_A, 9);
+    refuses("refusal 9: the remainder of 6 symbols", REMAINDER, book_a, "110100", REMAINDER_A, 9);
+    refuses("refusal 9: the remainder of 8 symbols", REMAINDER, book_a, "11010000", REMAINDER_A, 9);
+    refuses("refusal 9: the remainder of no symbols", REMAINDER, book_a, "", REMAINDER_A, 9);
+    refuses("refusal 9: decode 8 symbols", DECODE, book_a, "11010000", WORD_A, 9);
+    refuses("refusal 9: decode no symbols", DECODE, book_a, "", WORD_A, 9);
+    refuses("refusal 10: a word of 6", CODE, book_a, "1000", 6, 10);
+    refuses("refusal 10: a word of 8", CODE, book_a, "1000", 8, 10);
+    refuses("refusal 10: a message of 3", READ, book_a, "1101000", 3, 10);
+    refuses("refusal 10: a message of 7", READ, book_a, "1101000", 7, 10);
+    refuses("refusal 10: a remainder of 2", REMAINDER, book_a, "1000000", 2, 10);
+    refuses("refusal 10: a remainder of 4", REMAINDER, book_a, "1000000", 4, 10);
+    refuses("refusal 10: a remainder of 7", REMAINDER, book_a, "1101000", 7, 10);
+    refuses("refusal 10: a remainder of 0", REMAINDER, book_a, "1101000", 0, 10);
+    refuses("refusal 10: a remainder of 63", REMAINDER, book_a, "1000000", 63, 10);
+    refuses("refusal 10: an answer of 6", DECODE, book_a, "1000000", 6, 10);
+    refuses("refusal 10: an answer of 0", DECODE, book_a, "1000000", 0, 10);
+    refuses("refusal 10: an answer of 63", DECODE, book_a, "1000000", 63, 10);
+    refuses("refusal 11: code 0002", CODE, book_a, "0002", WORD_A, 11);
+    refuses("refusal 11: read 2000000", READ, book_a, "2000000", MESSAGE_A, 11);
+    refuses("refusal 11: the remainder of 2000000", REMAINDER, book_a, "2000000", REMAINDER_A, 11);
+    refuses("refusal 11: the remainder of 1101002", REMAINDER, book_a, "1101002", REMAINDER_A, 11);
+    refuses("refusal 11: the remainder of 114", REMAINDER, book_b, "114", 2, 11);
+    refuses("refusal 11: decode 2000000", DECODE, book_a, "2000000", WORD_A, 11);
+    refuses("refusal 11: decode 114", DECODE, book_b, "114", 3, 11);
+    refuses("refusal 12: read 1000000", READ, book_a, "1000000", MESSAGE_A, 12);
+    refuses("refusal 12: read 120", READ, book_b, "120", 1, 12);
     /* Of two the smaller. */
-    refuses("refusals 9, 10 and 11", shiftsum_decode, book_a, "20000000", 6, 9);
-    refuses("refusals 9, 10 and 11", shiftsum_remainder, book_a, "20000000", 4, 9);
-    refuses("refusals 10 and 11", shiftsum_code, book_a, "2000", 6, 10);
-    refuses("refusals 10 and 11", shiftsum_remainder, book_a, "2000000", 4, 10);
-    refuses("refusals 10 and 12", shiftsum_read, book_a, "1000000", 5, 10);
+    refuses("refusals 9, 10 and 11", DECODE, book_a, "20000000", 6, 9);
+    refuses("refusals 9, 10 and 11", REMAINDER, book_a, "20000000", 4, 9);
+    refuses("refusals 10 and 11", CODE, book_a, "2000", 6, 10);
+    refuses("refusals 10 and 11", REMAINDER, book_a, "2000000", 4, 10);
+    refuses("refusals 10 and 12", READ, book_a, "1000000", 5, 10);
 }
 
 /* No symbols, more than k, and short messages that are refused for something else. */
 static void test_refused_lengths(void)
 {
-    refuses("refusal 9: A, 7 symbols, as many as a word has", shiftsum_code, book_a, "1101000", WORD_A, 9);
-    refuses("refusal 9: A, 8 symbols", shiftsum_code, book_a, "11010000", WORD_A, 9);
-    refuses("refusal 9: B, no symbols", shiftsum_code, book_b, "", 3, 9);
-    refuses("refusal 9: B, 2 symbols", shiftsum_code, book_b, "10", 3, 9);
-    refuses("refusal 9: C, no symbols", shiftsum_code, book_c, "", 3, 9);
-    refuses("refusal 9: C, 3 symbols", shiftsum_code, book_c, "100", 3, 9);
-    refuses("refusal 10: one symbol to a word of 6", shiftsum_code, book_a, "1", 6, 10);
-    refuses("refusal 10: one symbol to a word of 1", shiftsum_code, book_a, "1", 1, 10);
-    refuses("refusal 10: one symbol to no word", shiftsum_code, book_a, "1", 0, 10);
-    refuses("refusal 11: A, code 2", shiftsum_code, book_a, "2", WORD_A, 11);
-    refuses("refusal 11: A, code 012", shiftsum_code, book_a, "012", WORD_A, 11);
-    refuses("refusal 11: C, code 4", shiftsum_code, book_c, "4", 3, 11);
-    refuses("refusals 9 and 10", shiftsum_code, book_a, "", 6, 9);
-    refuses("refusals 9 and 10", shiftsum_code, book_a, "10000", 8, 9);
-    refuses("refusals 9 and 11", shiftsum_code, book_a, "20000", WORD_A, 9);
-    refuses("refusals 9, 10 and 11", shiftsum_code, book_a, "00002", 6, 9);
-    refuses("refusals 10 and 11", shiftsum_code, book_a, "2", 6, 10);
+    refuses("refusal 9: A, 7 symbols, as many as a word has", CODE, book_a, "1101000", WORD_A, 9);
+    refuses("refusal 9: A, 8 symbols", CODE, book_a, "11010000", WORD_A, 9);
+    refuses("refusal 9: B, no symbols", CODE, book_b, "", 3, 9);
+    refuses("refusal 9: B, 2 symbols", CODE, book_b, "10", 3, 9);
+    refuses("refusal 9: C, no symbols", CODE, book_c, "", 3, 9);
+    refuses("refusal 9: C, 3 symbols", CODE, book_c, "100", 3, 9);
+    refuses("refusal 10: one symbol to a word of 6", CODE, book_a, "1", 6, 10);
+    refuses("refusal 10: one symbol to a word of 1", CODE, book_a, "1", 1, 10);
+    refuses("refusal 10: one symbol to no word", CODE, book_a, "1", 0, 10);
+    refuses("refusal 11: A, code 2", CODE, book_a, "2", WORD_A, 11);
+    refuses("refusal 11: A, code 012", CODE, book_a, "012", WORD_A, 11);
+    refuses("refusal 11: C, code 4", CODE, book_c, "4", 3, 11);
+    refuses("refusals 9 and 10", CODE, book_a, "", 6, 9);
+    refuses("refusals 9 and 10", CODE, book_a, "10000", 8, 9);
+    refuses("refusals 9 and 11", CODE, book_a, "20000", WORD_A, 9);
+    refuses("refusals 9, 10 and 11", CODE, book_a, "00002", 6, 9);
+    refuses("refusals 10 and 11", CODE, book_a, "2", 6, 10);
 }
 
 /* What M may not be; and the program's words with a symbol that is none. */
@@ -627,7 +725,6 @@ static void test_refused_bursts(void)
 {
     static const uint8_t zeros[17 * WORD_A] = {0};
     const char *const mixed = program_mixed, *const bad = bad_mixed;
-    const struct burst seventeen = {book_a, BOOK, 17, zeros, sizeof zeros, NULL, sizeof zeros, NULL, 17};
     char name[64];
     size_t i;
     for (i = 0; i < sizeof counts / sizeof counts[0]; i++) {
@@ -636,7 +733,7 @@ static void test_refused_bursts(void)
         refuses_burst(name, book_a, counts[i], "", 0, 0, 14);
         refuses_burst(name, book_a, counts[i], bad, 20, 4, 14);
     }
-    call_burst("refusal 14: 17 words, and buffers for them", seventeen, 14);
+    run("refusal 14: 17 words, and buffers for them", BURST, refused_call(BURST, book_a, BOOK, zeros, WORD_A, MESSAGE_A, 17), 14);
     refuses_burst("refusal 9: 20 symbols", book_a, 3, "11101100000100000000", 21, 3, 9);
     refuses_burst("refusal 9: 22 symbols", book_a, 3, "1110110000010000000000", 21, 3, 9);
     refuses_burst("refusal 9: 7 symbols", book_a, 3, "1101000", 21, 3, 9);
@@ -672,8 +769,7 @@ static void test_refused_games(void)
         refuses_game(name, book_a, counts[i], "", 0, 14);
         refuses_game(name, book_a, counts[i], bad, 11, 14);
     }
-    words_given = 17;
-    call("refusal 14: 17 words, and a buffer for them", game, book_a, BOOK, zeros, sizeof zeros, NULL, 17 * MESSAGE_A, 14);
+    run("refusal 14: 17 words, and a buffer for them", GAME, refused_call(GAME, book_a, BOOK, zeros, WORD_A, MESSAGE_A, 17), 14);
     refuses_game("refusal 9: 20 symbols", book_a, 3, "11101100000100000000", 12, 9);
     refuses_game("refusal 9: 22 symbols", book_a, 3, "1110110000010000000000", 12, 9);
     refuses_game("refusal 9: 7 symbols", book_a, 3, "1101000", 12, 9);
@@ -695,27 +791,126 @@ static void test_refused_games(void)
     refuses_game("refusals 10 and 11", book_a, 3, bad, 11, 10);
 }
 
+/* Faults of a call, one or two of them: the first in the order of the refusals is the one that is told. */
+enum { MOST_FAULTS = 64 };
+
+struct fault {
+    int rank; /* number, inputs, outputs, symbols */
+    uint32_t refusal;
+    uint32_t number;         /* rank 0 */
+    int buffer;
+    size_t at;               /* a length, or the place of a symbol */
+};
+
+static struct fault faults[MOST_FAULTS];
+static size_t fault_count;
+
+static void add_fault(int rank, uint32_t refusal, uint32_t number, int buffer, size_t at)
+{
+    const struct fault fault = {rank, refusal, number, buffer, at};
+    if (refusal != 0 && fault_count < MOST_FAULTS)
+        faults[fault_count++] = fault;
+}
+
+enum { NUMBER_RANK, INPUT_RANK, OUTPUT_RANK = INPUT_RANK + INPUTS, SYMBOL_RANK = OUTPUT_RANK + OUTPUTS };
+
+/* The lengths that a buffer of this size may not have. */
+static void add_lengths(int rank, int buffer, const struct buffer *row, size_t exact)
+{
+    add_fault(rank, row->length_refusal, 0, buffer, 0);
+    if (row->size != TO_K && exact > 1)
+        add_fault(rank, row->length_refusal, 0, buffer, exact - 1);
+    add_fault(rank, row->length_refusal, 0, buffer, exact + 1);
+    add_fault(rank, row->length_refusal, 0, buffer, 2 * exact);
+}
+
+static void list_faults(int which, const struct call *good)
+{
+    static const uint32_t numbers[] = {0, 17, 0x80000003u};
+    const struct function *f = &functions[which];
+    size_t j;
+    int i;
+    fault_count = 0;
+    for (j = 0; j < sizeof numbers / sizeof numbers[0]; j++)
+        add_fault(NUMBER_RANK, f->number_refusal, numbers[j], 0, 0);
+    for (i = 0; i < INPUTS && f->input[i].size != NONE; i++) {
+        add_lengths(INPUT_RANK + i, i, &f->input[i], good->input_len[i]);
+        add_fault(SYMBOL_RANK + i, f->input[i].symbol_refusal, 0, i, 0);
+        add_fault(SYMBOL_RANK + i, f->input[i].symbol_refusal, 0, i, good->input_len[i] - 1);
+    }
+    for (i = 0; i < OUTPUTS && f->output[i].size != NONE; i++)
+        add_lengths(OUTPUT_RANK + i, i, &f->output[i], good->output_len[i]);
+}
+
+/* The call with a fault more; the symbols of an input are in its own array. */
+static void spoil(struct call *c, const struct fault *fault, uint8_t (*inputs)[2 * LARGEST_BURST], uint8_t symbol)
+{
+    if (fault->rank == NUMBER_RANK)
+        c->number = fault->number;
+    else if (fault->rank < OUTPUT_RANK)
+        c->input_len[fault->buffer] = fault->at;
+    else if (fault->rank < SYMBOL_RANK)
+        c->output_len[fault->buffer] = fault->at;
+    else
+        inputs[fault->buffer][fault->at] = symbol;
+}
+
+/* Every fault alone, and with every other one of another rank where pairs are asked for; q is the first symbol that is none. */
+static void test_faults(const char *name, const uint8_t *book, size_t book_len, size_t n, size_t k, uint8_t q, uint32_t words, int pairs)
+{
+    static uint8_t inputs[INPUTS][2 * LARGEST_BURST];
+    size_t i, j;
+    int which, in;
+    for (which = 0; which < FUNCTIONS; which++) {
+        struct call good = refused_call(which, book, book_len, NULL, n, k, words);
+        for (in = 0; in < INPUTS; in++)
+            good.input[in] = inputs[in];
+        list_faults(which, &good);
+        for (i = 0; i < fault_count; i++)
+            for (j = i; j < (pairs ? fault_count : i + 1); j++) {
+                struct call spoiled = good;
+                if (i != j && faults[i].rank == faults[j].rank)
+                    continue;
+                memset(inputs, 0, sizeof inputs);
+                spoil(&spoiled, &faults[i], inputs, q);
+                spoil(&spoiled, &faults[j], inputs, q);
+                run(name, which, spoiled, faults[faults[i].rank <= faults[j].rank ? i : j].refusal);
+            }
+    }
+}
+
 /* Lengths that are the right ones and 2^32 more. The room can be read, and takes no memory before that; it cannot be written, which a refused call
  * does not do. */
 static void test_lengths_of_33_digits(void)
 {
     const size_t more = (size_t)1 << 32, room_len = 3 * (more + 1);
-    struct shiftsum_record record = {0, 0, 0};
-    uint8_t word[WORD_A] = {0}, answer[WORD_A], *room;
+    uint8_t word[WORD_A] = {0}, written[OUTPUTS][WORD_A], *output[OUTPUTS];
     void *const mapped = mmap(NULL, room_len, PROT_READ, MAP_PRIVATE | MAP_ANONYMOUS | MAP_NORESERVE, -1, 0);
+    int which, i, j;
     if (mapped == MAP_FAILED) {
         failed++;
         printf("failed: no room of %lu bytes\n", (unsigned long)room_len);
         return;
     }
-    room = (uint8_t *)mapped;
     fflush(stdout); /* A write to the room ends the run. */
-    expect_number("2^32 more", "the result for an input", shiftsum_burst(book_a, BOOK, 1, room, more + WORD_A, answer, WORD_A, &record, 1), 9);
-    expect_number("2^32 more", "the result for answers", shiftsum_burst(book_a, BOOK, 1, word, WORD_A, room, more + WORD_A, &record, 1), 10);
-    expect_number("2^32 more", "the result for a list",
-                  shiftsum_burst(book_a, BOOK, 1, word, WORD_A, answer, WORD_A, (struct shiftsum_record *)mapped, more + 1), 10);
-    expect_number("2^32 more", "the result for a game", shiftsum_game(book_a, BOOK, 1, room, more + WORD_A, answer, MESSAGE_A), 9);
-    expect_number("2^32 more", "the result for messages", shiftsum_game(book_a, BOOK, 1, word, WORD_A, room, more + MESSAGE_A), 10);
+    for (which = 0; which < FUNCTIONS; which++)
+        for (i = 0; i < INPUTS + OUTPUTS; i++) {
+            const struct buffer *buffer = i < INPUTS ? &functions[which].input[i] : &functions[which].output[i - INPUTS];
+            struct call longer = refused_call(which, book_a, BOOK, word, WORD_A, MESSAGE_A, 1);
+            if (buffer->size == NONE)
+                continue;
+            for (j = 0; j < OUTPUTS; j++)
+                output[j] = written[j];
+            if (i < INPUTS) {
+                longer.input[i] = (const uint8_t *)mapped;
+                longer.input_len[i] += more;
+            } else {
+                output[i - INPUTS] = (uint8_t *)mapped;
+                longer.output_len[i - INPUTS] += more;
+            }
+            expect_number("2^32 more", of_call(which, "the result for the ", buffer->name), functions[which].call(&longer, output),
+                          buffer->length_refusal);
+        }
     munmap(mapped, room_len);
 }
 
@@ -785,16 +980,16 @@ static void test_every_length(const struct shape *shape)
     const size_t book_len = make_sums(book, shape), n = shape->n;
     char name[64];
     size_t len;
-    call(shape->name, shiftsum_code, book, book_len, zeros, 0, NULL, n, 9);
+    call(shape->name, CODE, book, book_len, zeros, 0, NULL, n, 9);
     for (len = 1; len <= n - 1; len++) {
         snprintf(name, sizeof name, "%s, %lu symbols", shape->name, (unsigned long)len);
         put_word(word, message, shape, len);
-        call(name, shiftsum_code, book, book_len, message, len, word, n, 0);
-        call(name, shiftsum_code, book, book_len, message, n - 1, word, n, 0);
-        call(name, shiftsum_read, book, book_len, word, n, message, n - 1, 0);
+        call(name, CODE, book, book_len, message, len, word, n, 0);
+        call(name, CODE, book, book_len, message, n - 1, word, n, 0);
+        call(name, READ, book, book_len, word, n, message, n - 1, 0);
     }
-    call(shape->name, shiftsum_code, book, book_len, zeros, n, NULL, n, 9);
-    call(shape->name, shiftsum_code, book, book_len, zeros, n + 1, NULL, n, 9);
+    call(shape->name, CODE, book, book_len, zeros, n, NULL, n, 9);
+    call(shape->name, CODE, book, book_len, zeros, n + 1, NULL, n, 9);
 }
 
 static void test_largest(const struct shape *shape)
@@ -806,23 +1001,24 @@ static void test_largest(const struct shape *shape)
     size_t j;
     put_word(word, message, shape, n - 1);
     expect_number(is, "the result of check", shiftsum_check(book, len), 0x100);
-    call(is, shiftsum_code, book, len, message, n - 1, word, n, 0);
-    call(is, shiftsum_read, book, len, word, n, message, n - 1, 0);
-    call(is, shiftsum_remainder, book, len, word, n, &no_error, 1, 0);
-    call(is, shiftsum_decode, book, len, word, n, word, n, decoded(SHIFTSUM_CLEAN, 0, 0));
+    call(is, CODE, book, len, message, n - 1, word, n, 0);
+    call(is, READ, book, len, word, n, message, n - 1, 0);
+    call(is, REMAINDER, book, len, word, n, &no_error, 1, 0);
+    call(is, DECODE, book, len, word, n, word, n, decoded(SHIFTSUM_CLEAN, 0, 0));
     /* Every check value is the sum of all symbols, which is the error; so it is subtracted at all n places, an odd number, and the sum is 0 then. */
     memcpy(received, word, n);
     received[17] ^= error;
     for (j = 0; j < n; j++)
         answer[j] = received[j] ^ error;
-    call(is, shiftsum_decode, book, len, received, n, answer, n, decoded(SHIFTSUM_MENDED, 1, (unsigned)n));
-    call(is, shiftsum_remainder, book, len, received, n, &error, 1, 0);
-    call(is, shiftsum_read, book, len, received, n, NULL, n - 1, 12);
+    call(is, DECODE, book, len, received, n, answer, n, decoded(SHIFTSUM_MENDED, 1, (unsigned)n));
+    call(is, REMAINDER, book, len, received, n, &error, 1, 0);
+    call(is, READ, book, len, received, n, NULL, n - 1, 12);
     received[n - 1] = (uint8_t)(1u << shape->p);
-    call(is, shiftsum_decode, book, len, received, n, NULL, n, 11);
-    call(is, shiftsum_remainder, book, len, received, n, NULL, 1, 11);
-    call(is, shiftsum_decode, book, len, received, n - 1, NULL, n, 9);
-    call(is, shiftsum_decode, book, len, received, n, NULL, n - 1, 10);
+    call(is, DECODE, book, len, received, n, NULL, n, 11);
+    call(is, REMAINDER, book, len, received, n, NULL, 1, 11);
+    call(is, DECODE, book, len, received, n - 1, NULL, n, 9);
+    call(is, DECODE, book, len, received, n, NULL, n - 1, 10);
+    test_faults(is, book, len, n, n - 1, (uint8_t)(1u << shape->p), WORDS, 0);
 }
 
 /* As many words as there may be, every second one with an error, each at another place; a burst of them, and a game. */
@@ -832,8 +1028,6 @@ static void test_largest_burst(const struct shape *shape)
     uint8_t book[LONG_BOOK], message[LARGEST - 1], word[LARGEST];
     const size_t len = make_sums(book, shape), n = shape->n, k = n - 1, all = WORDS * n;
     struct shiftsum_record records[WORDS];
-    const struct burst burst = {book, len, WORDS, received, all, answers, all, records, WORDS};
-    const struct burst refused_burst = {book, len, WORDS, received, all, NULL, all, NULL, WORDS};
     size_t m, j;
     for (m = 0; m < WORDS; m++) {
         const uint8_t error = m % 2 == 0 ? shape->error : 0;
@@ -849,12 +1043,11 @@ static void test_largest_burst(const struct shape *shape)
         records[m].rounds = error != 0;
         records[m].changed = (uint8_t)(error == 0 ? 0 : n);
     }
-    words_given = WORDS;
-    call_burst(shape->name, burst, 0);
-    call(shape->name, game, book, len, received, all, messages, WORDS * k, taken(0));
+    run(shape->name, BURST, of_burst(book, len, WORDS, received, all, answers, all, records, WORDS), 0);
+    call_words(shape->name, WORDS, book, len, received, all, messages, WORDS * k, taken(0));
     received[all - 1] = (uint8_t)(1u << shape->p);
-    call_burst(shape->name, refused_burst, 11);
-    call(shape->name, game, book, len, received, all, NULL, WORDS * k, 11);
+    run(shape->name, BURST, of_burst(book, len, WORDS, received, all, NULL, all, NULL, WORDS), 11);
+    call_words(shape->name, WORDS, book, len, received, all, NULL, WORDS * k, 11);
 }
 
 /* A game of as many words as there may be, every second one with an error, which is mended; then of one word more each time, from the last to the
@@ -871,12 +1064,11 @@ static void test_every_count_held(const struct shape *shape)
         for (j = 0; j < n; j++)
             received[j * WORDS + m] = (uint8_t)(messages[m] ^ (m % 2 == 1 && j == m ? shape->error : 0));
     }
-    words_given = WORDS;
-    call(shape->name, game, book, len, received, all, messages, WORDS, taken(0));
+    call_words(shape->name, WORDS, book, len, received, all, messages, WORDS, taken(0));
     for (held = 1; held <= WORDS; held++) {
         received[20 * WORDS + WORDS - held] ^= shape->error;
         received[30 * WORDS + WORDS - held] ^= shape->error;
-        call(shape->name, game, book, len, received, all, NULL, WORDS, taken(held));
+        call_words(shape->name, WORDS, book, len, received, all, NULL, WORDS, taken(held));
     }
 }
 
@@ -891,9 +1083,9 @@ static void test_longest_remainder(const struct shape *shape)
         word[j] = (uint8_t)(j % (1u << shape->p));
     for (j = 0; j < n - 1; j++)
         rest[j] = (uint8_t)(word[j] ^ word[n - 1]);
-    call(shape->name, shiftsum_remainder, book, len, word, n, rest, n - 1, 0);
-    call(shape->name, shiftsum_remainder, book, len, word, n, NULL, n, 10);
-    call(shape->name, shiftsum_remainder, book, len, word, n, NULL, 1, 10);
+    call(shape->name, REMAINDER, book, len, word, n, rest, n - 1, 0);
+    call(shape->name, REMAINDER, book, len, word, n, NULL, n, 10);
+    call(shape->name, REMAINDER, book, len, word, n, NULL, 1, 10);
 }
 
 /* The longest codebook of each form: 31 or 32 dual words, of which 32 at n 63 would have two alike. */
@@ -906,15 +1098,14 @@ static void test_longest_book(const struct shape *shape)
     expect_number(shape->name, "the result of check", shiftsum_check(book, len), dual_words << 8);
     memset(word, shape->error, n);
     message = shape->error;
-    call(shape->name, shiftsum_code, book, len, &message, 1, word, n, 0);
-    call(shape->name, shiftsum_read, book, len, word, n, &message, 1, 0);
+    call(shape->name, CODE, book, len, &message, 1, word, n, 0);
+    call(shape->name, READ, book, len, word, n, &message, 1, 0);
     /* Each dual word checks the last place by one before and one after it, and any other place by the last one once at most. */
     memcpy(received, word, n);
     received[n - 1] = 0;
-    call(shape->name, shiftsum_decode, book, len, received, n, word, n, decoded(SHIFTSUM_MENDED, 1, 1));
-    call(shape->name, shiftsum_decode, book, len, word, n, word, n, decoded(SHIFTSUM_CLEAN, 0, 0));
-    words_given = 1;
-    call(shape->name, game, book, len, received, n, &message, 1, taken(0));
+    call(shape->name, DECODE, book, len, received, n, word, n, decoded(SHIFTSUM_MENDED, 1, 1));
+    call(shape->name, DECODE, book, len, word, n, word, n, decoded(SHIFTSUM_CLEAN, 0, 0));
+    call_words(shape->name, 1, book, len, received, n, &message, 1, taken(0));
 }
 
 /* A copy of a codebook of the long form with one byte changed, good until the next one. */
@@ -1009,6 +1200,10 @@ int main(void)
     test_refused_lengths();
     test_refused_bursts();
     test_refused_games();
+    test_faults("book A, a word", book_a, BOOK, WORD_A, MESSAGE_A, 2, 1, 1);
+    test_faults("book A, three words", book_a, BOOK, WORD_A, MESSAGE_A, 2, 3, 1);
+    test_faults("book B, two words", book_b, BOOK, 3, 1, 4, 2, 1);
+    test_faults("book C, 16 words", book_c, BOOK, 3, 2, 4, WORDS, 1);
     for (i = 0; i < sizeof shapes / sizeof shapes[0]; i++) {
         test_every_length(&shapes[i]);
         test_largest(&shapes[i]);
