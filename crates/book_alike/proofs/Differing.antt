@@ -24,10 +24,10 @@ use Rattle.word_array.specs.Stored.{place}
 use Rattle.word_array.proofs.Counted.{Counted, counted-byte}
 use Rattle.book_duals.specs.Duals.{dualWord}
 use Rattle.book_duals.proofs.LaneProduct.{tested-part}
-use Rattle.book_alike.specs.Signature.{timesOf, Signed}
+use Rattle.book_alike.specs.Signed.{timesOf, Signed}
 use Rattle.book_alike.specs.Compared.{differ, Comparable}
 use Rattle.book_alike.proofs.Words.{dual-word}
-use Rattle.book_alike.proofs.Signing.{alike-signature}
+use Rattle.word_alike.proofs.Signing.{alike-signature}
 
 -- ---- numbers
 

@@ -16,9 +16,10 @@ use Rattle.word_table.specs.Window.{Window}
 use Rattle.word_table.proofs.Rows.{rows-apart}
 use Rattle.spec_book.specs.Layout.{width, dualAt}
 use Rattle.book_duals.specs.Duals.{dualWord}
-use Rattle.book_alike.specs.Signature.{signatureOf, Bodies, Rows, Signed}
+use Rattle.word_alike.specs.Signature.{signatureOf}
+use Rattle.book_alike.specs.Signed.{Bodies, Rows, Signed}
 use Rattle.book_alike.proofs.Words.{body-word}
-use Rattle.book_alike.proofs.Signing.{signature-same}
+use Rattle.word_alike.proofs.Signing.{signature-same}
 
 -- fewer dual words
 pub bodies-part : {bytes : List ℕ} {n m duals : ℕ} → m ≤ duals → Bodies bytes n duals → Bodies bytes n m

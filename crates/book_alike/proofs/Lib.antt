@@ -1,5 +1,3 @@
 pub mod Words
-pub mod Signing
 pub mod Laying
 pub mod Differing
-pub mod Comparing

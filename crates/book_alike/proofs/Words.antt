@@ -1,6 +1,6 @@
 -- The dual words of a book's bytes: as words of n symbols, and where their bodies lie.
 -- Assumes nothing.
-use mathlib.Core.Path.{_≡_, ap, fun-ext, subst}
+use mathlib.Core.Path.{_≡_, ap, _∙_, fun-ext, subst}
 use mathlib.Core.List.{List}
 use Prim.Native.Nat.{ℕ, _+_, _%_, _^_, _≤_, _<_}
 use native.Mathlib.Nat.{mod-lt}
@@ -8,13 +8,15 @@ use native.Mathlib.Omega.{arith}
 use lib.ListN.{length}
 use Rattle.spec_field.specs.Symbols.{gf}
 use Rattle.spec_word.proofs.Place.{Word}
-use Rattle.sizes.specs.Blocks.{span}
+use Rattle.sizes.specs.Blocks.{span, stride}
 use Rattle.sizes.proofs.Lengths.{blocks-fit}
 use Rattle.word_array.specs.Stored.{place}
+use Rattle.word_table.specs.Multiples.{Tabled}
 use Rattle.spec_book.specs.Layout.{width, dualAt}
 use Rattle.spec_book.proofs.Accepting.{dual-apart}
 use Rattle.book_duals.specs.Duals.{dualWord, Tested}
 use Rattle.book_duals.proofs.Places.{dual-period}
+use Rattle.book_alike.specs.Compared.{TableOf}
 
 pub dual-word : {bytes : List ℕ} {p n duals : ℕ} → Tested bytes p n duals → (l : ℕ) → l < duals → Word (gf p) n (dualWord n bytes l)
 unfolding dualWord
@@ -39,3 +41,8 @@ module _ (bytes : List ℕ) (l : ℕ) {start : ℕ} (e : start ≡ dualAt (width
 
   pub body-symbol : {p n duals : ℕ} → Tested bytes p n duals → l < duals → (j : ℕ) → j + 1 < span n → place bytes (start + 1 + j) < 2 ^ p
   body-symbol {p} t b j k = subst (λ (i : ℕ). place bytes i < 2 ^ p) (omega arith) (t .symbol l j b k)
+
+-- the table made of a dual word's body
+pub table-of : (bytes : List ℕ) (l : ℕ) {start : ℕ} {t₀ t : List ℕ} {p n : ℕ} → start ≡ dualAt (width bytes) l
+    → Tabled (stride n) p n (λ j. place bytes (start + 1 + j)) t₀ t → TableOf bytes p n l t
+table-of bytes l {n = n} e m = record { multiples = m .multiples; word = fun-ext (m .word) ∙ body-word bytes l e n }

@@ -1,2 +1,2 @@
-pub mod Signature
+pub mod Signed
 pub mod Compared

@@ -5,7 +5,7 @@ ghost use Prim.Native.Nat.{_*_, _^_, _≤_};
 ghost use lib.ListN.{length};
 ghost use Rattle.spec_range.specs.Fold.{all};
 ghost use Rattle.sizes.specs.Blocks.{stride};
-ghost use Rattle.book_alike.specs.Signature.{Signed};
+ghost use Rattle.book_alike.specs.Signed.{Signed};
 ghost use Rattle.book_alike.specs.Compared.{differ, Comparable};
 
 mod compare;

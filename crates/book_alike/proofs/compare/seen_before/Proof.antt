@@ -2,9 +2,8 @@
 -- Assumes nothing.
 use mathlib.Core.Path.{refl, sym}
 use native.Mathlib.Omega.{arith}
-use Rattle.book_alike.proofs.Words.{body-room, body-symbol}
+use Rattle.book_alike.proofs.Words.{body-room, body-symbol, table-of}
 use Rattle.book_alike.proofs.Differing.{told-once, once-differs}
-use Rattle.book_alike.proofs.Comparing.{table-of}
 use borrow.Author.Needs.{needs}
 use Rattle.book_alike.proofs.compare.seen_before.Statement.{statement}
 use Rattle.book_alike.proofs.compare.seen_before.Tie as tie

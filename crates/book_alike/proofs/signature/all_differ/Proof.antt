@@ -7,7 +7,7 @@ use lib.Dec.{eqb}
 use Rattle.spec_range.specs.Fold.{total}
 use Rattle.spec_range.proofs.Loop.{fold-none, fold-step}
 use Rattle.word_array.specs.Stored.{place}
-use Rattle.book_alike.specs.Signature.{timesOf}
+use Rattle.book_alike.specs.Signed.{timesOf}
 use borrow.Author.Needs.{needs}
 use Rattle.book_alike.proofs.signature.all_differ.Statement.{statement}
 use Rattle.book_alike.proofs.signature.all_differ.Tie as tie

@@ -5,7 +5,7 @@ use Prim.Native.Nat.{_+_, _-_, _*_, _≤_}
 use native.Mathlib.Omega.{arith}
 use Rattle.sizes.proofs.Lengths.{blocks-fit}
 use lib.ListN.{length}
-use Rattle.book_alike.specs.Signature.{Rows}
+use Rattle.book_alike.specs.Signed.{Rows}
 use Rattle.book_alike.proofs.Words.{body-start, body-room}
 use Rattle.book_alike.proofs.Laying.{row-within, rows-none, rows-more}
 use borrow.Author.Needs.{needs}

@@ -8,7 +8,7 @@ use Rattle.sizes.proofs.Lengths.{blocks-high, blocks-fit}
 use Rattle.word_array.specs.Stored.{place}
 use Rattle.word_table.specs.Window.{Window}
 use Rattle.word_table.proofs.Window.{window-none, window-more}
-use Rattle.book_alike.specs.Signature.{signatureOf}
+use Rattle.word_alike.specs.Signature.{signatureOf}
 use Rattle.book_alike.proofs.Laying.{row-within}
 use borrow.Author.Needs.{needs}
 use Rattle.book_alike.proofs.signature.sign.Statement.{statement}

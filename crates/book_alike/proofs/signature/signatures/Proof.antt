@@ -5,7 +5,7 @@ use Prim.Native.Nat.{_*_, _-_, _≤_}
 use native.Mathlib.Omega.{arith}
 use lib.ListN.{length}
 use Rattle.sizes.specs.Blocks.{stride}
-use Rattle.book_alike.specs.Signature.{Signed}
+use Rattle.book_alike.specs.Signed.{Signed}
 use Rattle.book_alike.proofs.Laying.{bodies-part, shift-high, rows-taken, signed-none, signed-more}
 use borrow.Author.Needs.{needs}
 use Rattle.book_alike.proofs.signature.signatures.Statement.{statement}

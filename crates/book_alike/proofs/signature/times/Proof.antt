@@ -5,7 +5,7 @@ use native.Mathlib.Omega.{arith}
 use lib.Dec.{eqb}
 use Rattle.word_array.specs.Stored.{place}
 use Rattle.word_array.proofs.Counted.{Counted, counted-none, counted-more, counted-end}
-use Rattle.book_alike.specs.Signature.{timesOf}
+use Rattle.book_alike.specs.Signed.{timesOf}
 use Rattle.book_alike.proofs.Differing.{counted-fits}
 use borrow.Author.Needs.{needs}
 use Rattle.book_alike.proofs.signature.times.Statement.{statement}

@@ -1,6 +1,6 @@
 -- Two words compared turn by turn, one of them by the table of its multiples, are told alike exactly if they are.
 -- Assumes nothing.
-use mathlib.Core.Path.{_≡_, sym, ap, ap₂, _∙_, fun-ext, subst}
+use mathlib.Core.Path.{_≡_, sym, ap, ap₂, _∙_, subst}
 use mathlib.Core.Bool.{true, not, _&&_}
 use mathlib.Core.List.{List}
 use Prim.Native.Nat.{ℕ, _+_, _*_, _%_, _^_, _≤_, _<_}
@@ -20,12 +20,10 @@ use Rattle.spec_word.proofs.Alike.{alike-normal}
 use Rattle.sizes.specs.Blocks.{span, stride}
 use Rattle.sizes.proofs.Lengths.{blocks-fit}
 use Rattle.word_array.specs.Stored.{place}
-use Rattle.word_table.specs.Multiples.{wordOf, Laid, Tabled}
+use Rattle.word_table.specs.Multiples.{wordOf, Laid}
 use Rattle.word_table.proofs.Rows.{rows-apart}
 use Rattle.word_table.proofs.Tables.{wordOf-period}
-use Rattle.spec_book.specs.Layout.{width, dualAt}
-use Rattle.book_alike.specs.Compared.{TableOf, Pair, sameRow, turnOk}
-use Rattle.book_alike.proofs.Words.{body-word}
+use Rattle.word_alike.specs.Compared.{Pair, sameRow, turnOk}
 
 -- d is the word of the bytes from `from` on, twice over
 module _ {p n from : ℕ} {bytes t d₀ d : List ℕ} (h : Pair p n bytes from t) (laid : Laid n (span n) (λ j. place bytes (from + j)) 0 d₀ d) where
@@ -75,8 +73,3 @@ module _ {p n from : ℕ} {bytes t d₀ d : List ℕ} (h : Pair p n bytes from t
   pub alike-compared : any n (λ k. turnOk (stride n) n d k t) ≡ alike (gf p) n (λ j. place bytes (from + j % n)) (wordOf (stride n) n t)
   alike-compared =
       ap not (fold-cong _&&_ true n (λ k l. ap not (turn-is k l))) ∙ sym (alike-normal (gf p) laws n (h .sizes .n-low) word table-word (h .first))
-
--- the table made of a dual word's body
-pub table-of : (bytes : List ℕ) (l : ℕ) {start : ℕ} {t₀ t : List ℕ} {p n : ℕ} → start ≡ dualAt (width bytes) l
-    → Tabled (stride n) p n (λ j. place bytes (start + 1 + j)) t₀ t → TableOf bytes p n l t
-table-of bytes l {n = n} e m = record { multiples = m .multiples; word = fun-ext (m .word) ∙ body-word bytes l e n }

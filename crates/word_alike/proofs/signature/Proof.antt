@@ -1,4 +1,4 @@
--- `book_alike::signature::signature` meets its contract. The invariant: b blocks are added up; the marks from place n on add nothing.
+-- `word_alike::signature` meets its contract. The invariant: b blocks are added up; the marks from place n on add nothing.
 -- Assumes nothing.
 use mathlib.Core.Path.{_≡_, ap, _∙_}
 use Prim.Native.Nat.{_+_, _-_, _≤_}
@@ -6,10 +6,10 @@ use native.Mathlib.Omega.{arith}
 use lib.ListN.{length}
 use Rattle.spec_range.proofs.Loop.{padded-length}
 use Rattle.word_array.specs.Stored.{place}
-use Rattle.book_alike.proofs.Signing.{SignedTo, signed-to-none, signed-to-more, signed-to-end}
+use Rattle.word_alike.proofs.Signing.{SignedTo, signed-to-none, signed-to-more, signed-to-end}
 use borrow.Author.Needs.{needs}
-use Rattle.book_alike.proofs.signature.signature.Statement.{statement}
-use Rattle.book_alike.proofs.signature.signature.Tie as tie
+use Rattle.word_alike.proofs.signature.Statement.{statement}
+use Rattle.word_alike.proofs.signature.Tie as tie
 
 abbrev Inv-loop : tie.InvT-loop
 Inv-loop n blocks rows from inside sum₀ b₀ sum b = (b ≤ blocks) × SignedTo n (λ j. place rows (from + j)) inside b sum

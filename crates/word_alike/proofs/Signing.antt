@@ -22,7 +22,7 @@ use Rattle.spec_word.proofs.Alike.{MultipleOfTurn}
 use Rattle.word_array.specs.Stored.{place}
 use Rattle.word_array.proofs.Filled.{read-padded, padded-past}
 use Rattle.word_table.proofs.Window.{read-table}
-use Rattle.book_alike.specs.Signature.{markOf, markAt, signatureOf}
+use Rattle.word_alike.specs.Signature.{markOf, markAt, signatureOf}
 
 -- ---- marks
 

@@ -1,33 +1,16 @@
--- The signature of a word, and what the code lays out to take it.
+-- The signatures of a book's dual words, and what the code lays out to take them.
 -- Assumes nothing.
 use mathlib.Core.Path.{_≡_}
-use mathlib.Core.Bool.{Bool}
 use mathlib.Core.List.{List}
-use Prim.Native.Nat.{ℕ, _+_, _*_, _%_, _≤_, _<_}
-use lib.Bits.{bitAnd, bitXor}
+use Prim.Native.Nat.{ℕ, _+_, _*_, _≤_, _<_}
 use lib.Dec.{eqb}
 use lib.ListN.{length}
-use mir.Val.{boolByte}
-use Rattle.spec_range.specs.Fold.{total, count}
+use Rattle.spec_range.specs.Fold.{count}
 use Rattle.sizes.specs.Blocks.{span}
 use Rattle.word_array.specs.Stored.{place}
+use Rattle.word_alike.specs.Signature.{signatureOf}
 use Rattle.spec_book.specs.Layout.{width, dualAt}
 use Rattle.book_duals.specs.Duals.{dualWord}
-
--- a number for the outcomes of five tests
-unfoldable pub markOf : Bool → Bool → Bool → Bool → Bool → ℕ
-markOf a b c d e =
-    bitXor (bitXor (bitXor (bitXor (boolByte a * 29) (boolByte b * 71)) (boolByte c * 167)) (boolByte d * 202)) (boolByte e * 86)
-
--- the mark of a word of n symbols at place j: whether the symbols at some places after it, none of them more than n on, are its own
-unfoldable pub markAt : ℕ → (ℕ → ℕ) → ℕ → ℕ
-markAt n w j =
-    markOf (eqb (w j) (w (j + bitAnd 1 n))) (eqb (w j) (w (j + bitAnd 3 n))) (eqb (w j) (w (j + bitAnd 7 n)))
-    (eqb (w j) (w (j + bitAnd 12 n))) (eqb (w j) (w (j + bitAnd 20 n)))
-
--- the sum of the squares of a word's marks, in 16 digits
-unfoldable pub signatureOf : ℕ → (ℕ → ℕ) → ℕ
-signatureOf n w = total n (λ j. markAt n w j * markAt n w j) % 65536
 
 -- how many of 32 numbers are x
 unfoldable pub timesOf : List ℕ → ℕ → ℕ

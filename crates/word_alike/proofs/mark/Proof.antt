@@ -1,11 +1,11 @@
--- `book_alike::signature::mark` meets its contract: each product is a byte.
+-- `word_alike::mark` meets its contract: each product is a byte.
 -- Assumes nothing.
 use mathlib.Core.Path.{refl}
-use Rattle.book_alike.specs.Signature.{markOf}
-use Rattle.book_alike.proofs.Signing.{test-byte}
+use Rattle.word_alike.specs.Signature.{markOf}
+use Rattle.word_alike.proofs.Signing.{test-byte}
 use borrow.Author.Needs.{needs}
-use Rattle.book_alike.proofs.signature.mark.Statement.{statement}
-use Rattle.book_alike.proofs.signature.mark.Tie as tie
+use Rattle.word_alike.proofs.mark.Statement.{statement}
+use Rattle.word_alike.proofs.mark.Tie as tie
 
 cast-result : tie.Need-cast-result
 cast-result c = search needs

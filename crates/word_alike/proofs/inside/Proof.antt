@@ -1,4 +1,4 @@
--- `book_alike::signature::inside` meets its contract. The invariant: the places below j are set.
+-- `word_alike::inside` meets its contract. The invariant: the places below j are set.
 -- Assumes nothing.
 use mathlib.Core.Path.{refl}
 use Prim.Native.Nat.{_-_, _≤_}
@@ -6,8 +6,8 @@ use native.Mathlib.Omega.{arith}
 use Rattle.spec_range.proofs.Loop.{Held, held-none, held-more}
 use Rattle.word_array.proofs.Filled.{held-end}
 use borrow.Author.Needs.{needs}
-use Rattle.book_alike.proofs.signature.inside.Statement.{statement}
-use Rattle.book_alike.proofs.signature.inside.Tie as tie
+use Rattle.word_alike.proofs.inside.Statement.{statement}
+use Rattle.word_alike.proofs.inside.Tie as tie
 
 abbrev Inv-loop : tie.InvT-loop
 Inv-loop n out₀ j₀ out j = (j ≤ n) × Held 256 j (λ _. 255) out

@@ -1,4 +1,4 @@
--- `book_alike::signature::marks` meets its contract. The invariant: the marks below place j are made.
+-- `word_alike::marks` meets its contract. The invariant: the marks below place j are made.
 -- Assumes nothing.
 use mathlib.Core.Path.{ap}
 use Prim.Native.Nat.{ℕ, _+_, _-_, _≤_}
@@ -7,10 +7,10 @@ use lib.Bits.{bitAnd}
 use Rattle.spec_range.proofs.Loop.{Held, held-none, held-more}
 use Rattle.word_array.specs.Stored.{place}
 use Rattle.word_table.proofs.Window.{held-table}
-use Rattle.book_alike.specs.Signature.{markAt}
+use Rattle.word_alike.specs.Signature.{markAt}
 use borrow.Author.Needs.{needs}
-use Rattle.book_alike.proofs.signature.marks.Statement.{statement}
-use Rattle.book_alike.proofs.signature.marks.Tie as tie
+use Rattle.word_alike.proofs.marks.Statement.{statement}
+use Rattle.word_alike.proofs.marks.Tie as tie
 
 abbrev Inv-loop : tie.InvT-loop
 Inv-loop n rows from inside at a b c d e out₀ j₀ out j =

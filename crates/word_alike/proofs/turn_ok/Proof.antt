@@ -1,4 +1,4 @@
--- `book_alike::compare::turn_ok` meets its contract: the symbol tells the row.
+-- `word_alike::turn_ok` meets its contract: the symbol tells the row.
 -- Assumes nothing.
 use mathlib.Core.Path.{_≡_, ap, ap₂, _∙_}
 use Prim.Native.Nat.{ℕ, _*_}
@@ -6,10 +6,10 @@ use borrow.Author.Tests.{eq-eqb, ne-eqb}
 use Rattle.sizes.specs.Blocks.{stride}
 use Rattle.sizes.proofs.Lengths.{blocks-high, blocks-fit}
 use Rattle.word_array.specs.Stored.{place}
-use Rattle.book_alike.specs.Compared.{turnOk, sameRow}
+use Rattle.word_alike.specs.Compared.{turnOk, sameRow}
 use borrow.Author.Needs.{needs}
-use Rattle.book_alike.proofs.compare.turn_ok.Statement.{statement}
-use Rattle.book_alike.proofs.compare.turn_ok.Tie as tie
+use Rattle.word_alike.proofs.turn_ok.Statement.{statement}
+use Rattle.word_alike.proofs.turn_ok.Tie as tie
 
 shared-slice-read-c : tie.Need-shared-slice-read-c
 shared-slice-read-c c = search needs

@@ -1,14 +1,14 @@
--- `book_alike::signature::squares` meets its contract. The invariant: `sum` is that of the squares below place j.
+-- `word_alike::squares` meets its contract. The invariant: `sum` is that of the squares below place j.
 -- Assumes nothing.
 use mathlib.Core.Path.{_≡_}
 use Prim.Native.Nat.{_-_, _≤_}
 use native.Mathlib.Omega.{arith}
 use mir.Facts.{fits-widen}
 use Rattle.word_array.specs.Stored.{place}
-use Rattle.book_alike.proofs.Signing.{SquaresTo, squares-none, squares-more, square-high}
+use Rattle.word_alike.proofs.Signing.{SquaresTo, squares-none, squares-more, square-high}
 use borrow.Author.Needs.{needs}
-use Rattle.book_alike.proofs.signature.squares.Statement.{statement}
-use Rattle.book_alike.proofs.signature.squares.Tie as tie
+use Rattle.word_alike.proofs.squares.Statement.{statement}
+use Rattle.word_alike.proofs.squares.Tie as tie
 
 abbrev Inv-loop : tie.InvT-loop
 Inv-loop m before sum₀ j₀ sum j = (j ≤ 64) × SquaresTo m before j sum

@@ -1,4 +1,4 @@
--- `book_alike::compare::same_row` meets its contract. The invariant: `found` is the number of places below j that differ.
+-- `word_alike::same_row` meets its contract. The invariant: `found` is the number of places below j that differ.
 -- Assumes nothing.
 use mathlib.Core.Path.{ap, _∙_}
 use mathlib.Core.Bool.{true, not, _&&_}
@@ -10,10 +10,10 @@ use Rattle.spec_range.proofs.Fold.{fold-cong}
 use Rattle.spec_range.proofs.Count.{none-counted}
 use Rattle.word_array.specs.Stored.{place}
 use Rattle.word_array.proofs.Counted.{Counted, counted-none, counted-more, counted-byte, counted-end}
-use Rattle.book_alike.specs.Compared.{sameRow}
+use Rattle.word_alike.specs.Compared.{sameRow}
 use borrow.Author.Needs.{needs}
-use Rattle.book_alike.proofs.compare.same_row.Statement.{statement}
-use Rattle.book_alike.proofs.compare.same_row.Tie as tie
+use Rattle.word_alike.proofs.same_row.Statement.{statement}
+use Rattle.word_alike.proofs.same_row.Tie as tie
 
 abbrev Inv-loop : tie.InvT-loop
 Inv-loop n d k t from found₀ j₀ found j = Counted n (λ j. not (eqb (place d (k + j)) (place t (from + j)))) j found

@@ -1,4 +1,4 @@
--- `book_alike::compare::alike` meets its contract. The invariant: no turn below k fits.
+-- `word_alike::alike` meets its contract. The invariant: no turn below k fits.
 -- Assumes nothing.
 use mathlib.Core.Path.{sym, ap, _∙_}
 use mathlib.Core.Bool.{not}
@@ -7,11 +7,11 @@ use native.Mathlib.Omega.{arith}
 use Rattle.spec_range.proofs.Loop.{Passing, passing-none, passing-more, passing-fails, passing-end}
 use Rattle.sizes.specs.Blocks.{stride}
 use Rattle.sizes.proofs.Lengths.{blocks-high}
-use Rattle.book_alike.specs.Compared.{turnOk}
-use Rattle.book_alike.proofs.Comparing.{row-fits, alike-compared}
+use Rattle.word_alike.specs.Compared.{turnOk}
+use Rattle.word_alike.proofs.Comparing.{row-fits, alike-compared}
 use borrow.Author.Needs.{needs}
-use Rattle.book_alike.proofs.compare.alike.Statement.{statement}
-use Rattle.book_alike.proofs.compare.alike.Tie as tie
+use Rattle.word_alike.proofs.alike.Statement.{statement}
+use Rattle.word_alike.proofs.alike.Tie as tie
 
 abbrev Inv-loop : tie.InvT-loop
 Inv-loop p n book from t d k₀ k = Passing n (λ k. not (turnOk (stride n) n d k t)) k
