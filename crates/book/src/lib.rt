@@ -11,8 +11,8 @@ ghost use Rattle.book.specs.Params.{said};
 ghost use Rattle.book.specs.Opened.{fewSymbols, tableRoom, MatrixSize, Opens};
 use sizes::GENERATOR_AT;
 
+mod conditions;
 mod generator;
-mod words;
 
 // Accepted, with the count of dual words, or refused, with the number of SCOPE 7.
 pub enum Checked {
@@ -116,7 +116,7 @@ fn open_readable(book: &[u8], t: &mut [u8]) -> Opened
         places: sizes::wide(book[limits + 2]),
         duals: book_records::dual_count(book),
     };
-    let number = words::refusal(book, c, t);
+    let number = conditions::refusal(book, c, t);
     if number != 0 {
         return Opened::Refused(number);
     }

@@ -1,4 +1,4 @@
--- `book::words::refusal` meets its contract: each return rewrites with the tests that led there.
+-- `book::conditions::refusal` meets its contract: each return rewrites with the tests that led there.
 -- Assumes nothing.
 use mathlib.Core.Path.{_≡_, _∙_}
 use mathlib.Core.Bool.{true}
@@ -8,8 +8,8 @@ use Rattle.book_records.proofs.Tested.{failed, passed}
 use Rattle.book.proofs.DualWords.{comparable, distinct-test}
 use Rattle.book.proofs.Gathering.{gathered-limits}
 use borrow.Author.Needs.{needs}
-use Rattle.book.proofs.words.refusal.Statement.{statement}
-use Rattle.book.proofs.words.refusal.Tie as tie
+use Rattle.book.proofs.conditions.refusal.Statement.{statement}
+use Rattle.book.proofs.conditions.refusal.Tie as tie
 
 generator-ok-requires : tie.Need-generator-ok-requires
 generator-ok-requires c κs = c .before .before .pre

@@ -1,8 +1,8 @@
--- `book::words::duals_ok` meets its contract: the weights and the products are those of the book's dual words.
+-- `book::conditions::duals_ok` meets its contract: the weights and the products are those of the book's dual words.
 -- Assumes nothing.
 use Rattle.book.proofs.DualWords.{lying, tested, weights-fail, products-decide, table}
-use Rattle.book.proofs.words.duals_ok.Statement.{statement}
-use Rattle.book.proofs.words.duals_ok.Tie as tie
+use Rattle.book.proofs.conditions.duals_ok.Statement.{statement}
+use Rattle.book.proofs.conditions.duals_ok.Tie as tie
 
 weights-ok-requires : tie.Need-weights-ok-requires
 weights-ok-requires c κs = let h = c .before .before .pre in lying (h .0) (h .1)
