@@ -17,7 +17,7 @@ use Rattle.spec_book.specs.Layout.{isLong, sizeExponent, symbolDigits, wordLeng
 use Rattle.spec_book.specs.Conditions.{sizesOk, refusal}
 use Rattle.spec_book.proofs.Accepting.{Form, short, long, form, width-high, Sizes}
 use Rattle.book_layout.proofs.Sized.{short-block, word-sizes}
-use Rattle.book.specs.Opened.{fewSymbols, tableRoom, MatrixSize}
+use Rattle.book.specs.Opened.{fewSymbols, tableRoom, MatrixBound}
 
 -- a row for each of 2 ^ most symbols
 table-fits : {row size p : ℕ} (most : ℕ) → row ≤ size → p ≤ most → row * 2 ^ p ≤ size * 2 ^ most
@@ -102,9 +102,9 @@ digits-most bytes h = go (form bytes)
     go (long f w) = rw f (h .long-p f)
 
 -- the size of a matrix by s and p that are not too large for the form
-pub matrix-sized : (bytes : List ℕ) → sizeExponent bytes ≤ cond (isLong bytes) 8 6 → symbolDigits bytes ≤ cond (isLong bytes) 4 6
-    → MatrixSize bytes (2 ^ symbolDigits bytes * wordLength bytes)
-matrix-sized bytes s p = go (form bytes)
+pub matrix-bounded : (bytes : List ℕ) → sizeExponent bytes ≤ cond (isLong bytes) 8 6 → symbolDigits bytes ≤ cond (isLong bytes) 4 6
+    → MatrixBound bytes (2 ^ symbolDigits bytes * wordLength bytes)
+matrix-bounded bytes s p = go (form bytes)
   where
     few : fewSymbols bytes ≡ true → 2 ^ symbolDigits bytes ≤ 8
     few e =
@@ -114,7 +114,7 @@ matrix-sized bytes s p = go (form bytes)
         q
 
     fits : {rows columns : ℕ} → 2 ^ symbolDigits bytes ≤ rows → wordLength bytes ≤ columns → rows * columns ≤ 4080 → columns ≤ 255
-        → (isLong bytes ≡ false → columns ≤ 63) → MatrixSize bytes (2 ^ symbolDigits bytes * wordLength bytes)
+        → (isLong bytes ≡ false → columns ≤ 63) → MatrixBound bytes (2 ^ symbolDigits bytes * wordLength bytes)
     fits q k most wide narrow =
         record {
           exact = λ _. refl;
@@ -123,7 +123,7 @@ matrix-sized bytes s p = go (form bytes)
           few-short = λ e f. let k : wordLength bytes ≤ 63 = omega (arith, narrow f) in le-trans (mul-le-mul (few e) k) (omega arith);
         }
 
-    go : Form bytes → MatrixSize bytes (2 ^ symbolDigits bytes * wordLength bytes)
+    go : Form bytes → MatrixBound bytes (2 ^ symbolDigits bytes * wordLength bytes)
     go (short f w) =
         let a : sizeExponent bytes ≤ 6 = rw f at s in
         let b : symbolDigits bytes ≤ 6 = rw f at p in
@@ -138,5 +138,5 @@ matrix-sized bytes s p = go (form bytes)
         fits {columns = 255} q (omega arith) (omega arith) (omega arith) (λ g. absurd (true≢false (sym f ∙ g)))
 
 -- bytes that are not accepted may have none
-pub no-matrix : (bytes : List ℕ) → (refusal bytes ≡ 0 → ⊥) → MatrixSize bytes 0
+pub no-matrix : (bytes : List ℕ) → (refusal bytes ≡ 0 → ⊥) → MatrixBound bytes 0
 no-matrix bytes h = record { exact = λ e. absurd (h e); most = omega arith; few = λ _. omega arith; few-short = λ _ _. omega arith }

@@ -20,8 +20,8 @@ fewSymbols bytes = ltb (symbolDigits bytes) 4
 unfoldable pub tableRoom : List ℕ → ℕ
 tableRoom bytes = cond (fewSymbols bytes) (cond (isLong bytes) 4096 1024) 8192
 
--- size is that of the matrix of bytes that are accepted, and never more than there is room for
-pub record MatrixSize (bytes : List ℕ) (size : ℕ) : Type 0 where
+-- size is that of the matrix where the bytes are accepted, and never more than there is room for
+pub record MatrixBound (bytes : List ℕ) (size : ℕ) : Type 0 where
   pub exact : refusal bytes ≡ 0 → size ≡ 2 ^ symbolDigits bytes * wordLength bytes
   pub most : size ≤ 4080
   pub few : fewSymbols bytes ≡ true → size ≤ 2040

@@ -8,7 +8,7 @@ ghost use Rattle.spec_book.specs.Layout.{isLong, symbolDigits, wordLength};
 ghost use Rattle.book_records.specs.Records.{Readable};
 ghost use Rattle.spec_operations.specs.Check.{checkAnswer};
 ghost use Rattle.book.specs.Params.{said};
-ghost use Rattle.book.specs.Opened.{fewSymbols, tableRoom, MatrixSize, Opens};
+ghost use Rattle.book.specs.Opened.{fewSymbols, tableRoom, MatrixBound, Opens};
 use sizes::GENERATOR_AT;
 
 mod conditions;
@@ -56,9 +56,9 @@ fn small_table(book: &[u8]) -> bool
     few_symbols(book)
 }
 
-// The size of an accepted book's matrix, known before the book is opened, so that room can be lent. Any other book asks for no more.
-pub fn matrix_size(book: &[u8]) -> usize
-    ensures { λ r. ⌜ MatrixSize (now (book .entry)) r ⌝ }
+// The most entries that a book's matrix takes, known before the book is opened, so that a buffer can be cut to it: the size itself where the book is accepted.
+pub fn matrix_bound(book: &[u8]) -> usize
+    ensures { λ r. ⌜ MatrixBound (now (book .entry)) r ⌝ }
 {
     if book.len() < GENERATOR_AT {
         return 0;

@@ -96,7 +96,7 @@ fn decode_few(book: &[u8], received: &[u8], answer: &mut [u8]) -> u32
         (values (decodeBytes (now (book .entry)) (now (received .entry)))) (decodeBytes (now (book .entry)) (now (received .entry)) .answer)
         (now (answer .entry)) r (now (answer .exit)) ⌝ }
 {
-    let size = book::matrix_size(book);
+    let size = book::matrix_bound(book);
     let mut room = few_room();
     packing::pack_decoded(decode::decode_short(book, received, answer, &mut room[..size]))
 }
@@ -108,7 +108,7 @@ fn decode_short(book: &[u8], received: &[u8], answer: &mut [u8]) -> u32
         (values (decodeBytes (now (book .entry)) (now (received .entry)))) (decodeBytes (now (book .entry)) (now (received .entry)) .answer)
         (now (answer .entry)) r (now (answer .exit)) ⌝ }
 {
-    let size = book::matrix_size(book);
+    let size = book::matrix_bound(book);
     let mut room = matrix_room();
     packing::pack_decoded(decode::decode_short(book, received, answer, &mut room[..size]))
 }
@@ -120,7 +120,7 @@ fn decode_long_few(book: &[u8], received: &[u8], answer: &mut [u8]) -> u32
         (values (decodeBytes (now (book .entry)) (now (received .entry)))) (decodeBytes (now (book .entry)) (now (received .entry)) .answer)
         (now (answer .entry)) r (now (answer .exit)) ⌝ }
 {
-    let size = book::matrix_size(book);
+    let size = book::matrix_bound(book);
     let mut room = long_few_room();
     packing::pack_decoded(decode::decode_long(book, received, answer, &mut room[..size]))
 }
@@ -131,7 +131,7 @@ fn decode_long(book: &[u8], received: &[u8], answer: &mut [u8]) -> u32
         (values (decodeBytes (now (book .entry)) (now (received .entry)))) (decodeBytes (now (book .entry)) (now (received .entry)) .answer)
         (now (answer .entry)) r (now (answer .exit)) ⌝ }
 {
-    let size = book::matrix_size(book);
+    let size = book::matrix_bound(book);
     let mut room = matrix_room();
     packing::pack_decoded(decode::decode_long(book, received, answer, &mut room[..size]))
 }
@@ -162,7 +162,7 @@ fn burst_few(book: &[u8], words: u32, received: &[u8], answers: &mut [u8], list:
     ensures { λ r. ⌜ Made (burstRefusal (now (book .entry)) words (now (received .entry)) (length (now (answers .entry))) list (matrixSize (now (book .entry))))
         words (burstWord (now (book .entry)) words (now (received .entry))) (now (answers .entry)) r (now (answers .exit)) ⌝ }
 {
-    let size = book::matrix_size(book);
+    let size = book::matrix_bound(book);
     let mut room = few_room();
     burst::burst_short(book, words, received, answers, list, &mut room[..size])
 }
@@ -173,7 +173,7 @@ fn burst_short(book: &[u8], words: u32, received: &[u8], answers: &mut [u8], lis
     ensures { λ r. ⌜ Made (burstRefusal (now (book .entry)) words (now (received .entry)) (length (now (answers .entry))) list (matrixSize (now (book .entry))))
         words (burstWord (now (book .entry)) words (now (received .entry))) (now (answers .entry)) r (now (answers .exit)) ⌝ }
 {
-    let size = book::matrix_size(book);
+    let size = book::matrix_bound(book);
     let mut room = matrix_room();
     burst::burst_short(book, words, received, answers, list, &mut room[..size])
 }
@@ -190,7 +190,7 @@ fn burst_long_few(
     ensures { λ r. ⌜ Made (burstRefusal (now (book .entry)) words (now (received .entry)) (length (now (answers .entry))) list (matrixSize (now (book .entry))))
         words (burstWord (now (book .entry)) words (now (received .entry))) (now (answers .entry)) r (now (answers .exit)) ⌝ }
 {
-    let size = book::matrix_size(book);
+    let size = book::matrix_bound(book);
     let mut room = long_few_room();
     burst::burst_long(book, words, received, answers, list, &mut room[..size])
 }
@@ -200,7 +200,7 @@ fn burst_long(book: &[u8], words: u32, received: &[u8], answers: &mut [u8], list
     ensures { λ r. ⌜ Made (burstRefusal (now (book .entry)) words (now (received .entry)) (length (now (answers .entry))) list (matrixSize (now (book .entry))))
         words (burstWord (now (book .entry)) words (now (received .entry))) (now (answers .entry)) r (now (answers .exit)) ⌝ }
 {
-    let size = book::matrix_size(book);
+    let size = book::matrix_bound(book);
     let mut room = matrix_room();
     burst::burst_long(book, words, received, answers, list, &mut room[..size])
 }

@@ -1,4 +1,4 @@
--- `book::matrix_size` meets its contract: what cannot be read so far is not accepted.
+-- `book::matrix_bound` meets its contract: what cannot be read so far is not accepted.
 -- Assumes nothing.
 use mathlib.Core.Path.{ap₂, _∙_}
 use Prim.Native.Nat.{_*_, _^_}
@@ -6,11 +6,11 @@ use native.Mathlib.Omega.{arith}
 use Rattle.spec_book.specs.Layout.{isLong, symbolDigits, wordLength}
 use Rattle.spec_book.proofs.Accepting.{sizes}
 use Rattle.book_records.proofs.Tested.{readable}
-use Rattle.book.specs.Opened.{MatrixSize}
-use Rattle.book.proofs.Rooms.{exponent-le, digits-le, exponent-most, digits-most, matrix-sized, no-matrix}
+use Rattle.book.specs.Opened.{MatrixBound}
+use Rattle.book.proofs.Rooms.{exponent-le, digits-le, exponent-most, digits-most, matrix-bounded, no-matrix}
 use borrow.Author.Needs.{needs}
-use Rattle.book.proofs.matrix_size.Statement.{statement}
-use Rattle.book.proofs.matrix_size.Tie as tie
+use Rattle.book.proofs.matrix_bound.Statement.{statement}
+use Rattle.book.proofs.matrix_bound.Tie as tie
 
 returns : tie.Need-returns
 returns c = no-matrix _ (λ e. let r = readable _ e in omega (arith, r .whole .size))
@@ -44,11 +44,11 @@ word-length-requires c κs =
     let x = c .before .before .before .before in
     omega (arith, x .if2 .left, x .before .most-exponent .ensures, exponent-le (isLong (x .before .before .before .before .before .before .args .book .now)))
 
-sized : (c : tie.After-word-length) → let bytes = c .before .before .before .before .before .before .before .before .before .before .before .args .book .now in MatrixSize bytes (2 ^ symbolDigits bytes * wordLength bytes)
+sized : (c : tie.After-word-length) → let bytes = c .before .before .before .before .before .before .before .before .before .before .before .args .book .now in MatrixBound bytes (2 ^ symbolDigits bytes * wordLength bytes)
 sized c =
     let d = c .before .before .before .before in
     let x = d .before .before in
-    matrix-sized (c .before .before .before .before .before .before .before .before .before .before .before .args .book .now) (omega (arith, x .most-exponent .ensures, d .before .if2 .left))
+    matrix-bounded (c .before .before .before .before .before .before .before .before .before .before .before .args .book .now) (omega (arith, x .most-exponent .ensures, d .before .if2 .left))
     (omega (arith, d .most-digits .ensures, c .before .before .before .if3 .left))
 
 mul-result : tie.Need-mul-result
@@ -59,8 +59,8 @@ mul-result c =
 returns-4 : tie.Need-returns-4
 returns-4 c = rw (c .before .wide .ensures, c .before .before .order .ensures, c .word-length .ensures .0) (sized c)
 
-pub matrix-size-spec : {M : Type 1} → statement M
-matrix-size-spec =
+pub matrix-bound-spec : {M : Type 1} → statement M
+matrix-bound-spec =
     tie.close
     (tie.spec
     returns
