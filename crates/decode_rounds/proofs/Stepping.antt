@@ -17,11 +17,12 @@ use Rattle.spec_range.proofs.Table.{table-at, table-same}
 use Rattle.spec_range.proofs.Loop.{padded-at}
 use Rattle.spec_field.specs.Field.{FieldOps}
 use Rattle.spec_field.specs.Symbols.{gf}
-use Rattle.spec_word.specs.Word.{at}
+use Rattle.spec_word.specs.Word.{at, plus}
 use Rattle.spec_word.specs.Division.{allZero}
 use Rattle.spec_word.proofs.Place.{at-lt}
 use Rattle.sizes.specs.Blocks.{stride}
 use Rattle.word_array.specs.Stored.{place, Stored}
+use Rattle.word_array.proofs.Plus.{plus-at}
 use Rattle.word_table.specs.Multiples.{wordOf}
 use Rattle.word_divide.specs.Window.{Remains}
 use Rattle.spec_book.specs.Book.{Book, isCodeWord}
@@ -64,19 +65,20 @@ module _ (bytes : List ℕ) (e : refusal bytes ≡ 0) (make : (ℕ → ℕ) → 
 
   -- the matrix m, the corrections v and the corrected word w′ of a word w
   module _ (w : List ℕ) (stored : Stored (symbolDigits bytes) 255 w) (m v w′ : List ℕ) (hm : m ≡ made bytes make w)
-      (hv : v ≡ padded 255 (B .n) (correction F B (cell F B m))) (hw : w′ ≡ padded 255 (B .n) (λ j. bitXor (place w j) (place v j))) where
+      (hv : v ≡ padded 255 (B .n) (correction F B (cell F B m))) (hw : w′ ≡ padded 255 (B .n) (place (plus F (B .n) w v))) where
     correction-at : (j : ℕ) → j < B .n → place v j ≡ correction F B (cell F B (made bytes make w)) j
     correction-at j l =
         ap (λ (x : List ℕ). place x j) hv ∙ padded-at 255 (B .n) _ (n-high bytes e) l ∙ ap (λ (x : List ℕ). correction F B (cell F B x) j) hm
 
     corrected-at : (j : ℕ) → j < B .n → place w′ j ≡ bitXor (place w j) (correction F B (cell F B (made bytes make w)) j)
     corrected-at j l =
-        ap (λ (x : List ℕ). place x j) hw ∙ padded-at 255 (B .n) _ (n-high bytes e) l ∙ ap (bitXor (place w j)) (correction-at j l)
+        ap (λ (x : List ℕ). place x j) hw ∙ padded-at 255 (B .n) _ (n-high bytes e) l ∙ plus-at (symbolDigits bytes) (B .n) w v l
+        ∙ ap (bitXor (place w j)) (correction-at j l)
 
     pub corrected-stored : Stored (symbolDigits bytes) 255 w′
     corrected-stored =
         padded-symbols hw (λ j l.
-        subst (λ (x : ℕ). bitXor (place w j) x < F .q) (sym (correction-at j l))
+        subst (λ (x : ℕ). x < F .q) (sym (plus-at (symbolDigits bytes) (B .n) w v l ∙ ap (bitXor (place w j)) (correction-at j l)))
         (book-laws bytes e .add-below _ _ (stored .symbol j (omega (arith, n-high bytes e)))
         (correction-below F (book-laws bytes e) B (cell F B (made bytes make w)) j)))
 
@@ -107,7 +109,7 @@ module _ (bytes : List ℕ) (e : refusal bytes ≡ 0) (make : (ℕ → ℕ) → 
 module _ (bytes : List ℕ) (make : (ℕ → ℕ) → List ℕ) (c : Params) (w : List ℕ) (d : Describes bytes c) (stored : Stored (c .p) 255 w) (m v w′ : List ℕ)
     (hm : m ≡ make (at (c .n) w))
     (hv : (B : Book) → B .n ≡ c .n → B .most-places ≡ c .places → v ≡ padded 255 (c .n) (correction (gf (c .p)) B (cell (gf (c .p)) B m)))
-    (hw : w′ ≡ padded 255 (c .n) (λ j. bitXor (place w j) (place v j))) where
+    (hw : (p : ℕ) → w′ ≡ padded 255 (c .n) (place (plus (gf p) (c .n) w v))) where
   word : Stored (symbolDigits bytes) 255 w
   word = rw (d .p-is) at stored
 
@@ -117,8 +119,8 @@ module _ (bytes : List ℕ) (make : (ℕ → ℕ) → List ℕ) (c : Params) (w 
   made-corrections : v ≡ padded 255 (bookOf bytes .n) (correction (fieldOf bytes) (bookOf bytes) (cell (fieldOf bytes) (bookOf bytes) m))
   made-corrections = rw (d .n-is, d .p-is) at (hv (bookOf bytes) (sym (d .n-is)) (sym (d .places-is)))
 
-  made-word : w′ ≡ padded 255 (bookOf bytes .n) (λ j. bitXor (place w j) (place v j))
-  made-word = rw (d .n-is) at hw
+  made-word : w′ ≡ padded 255 (bookOf bytes .n) (place (plus (fieldOf bytes) (bookOf bytes .n) w v))
+  made-word = rw (d .n-is) at (hw (symbolDigits bytes))
 
   pub round-stored : Stored (symbolDigits bytes) 255 w′
   round-stored = corrected-stored bytes (d .accepted) make w word m v w′ made-matrix made-corrections made-word

@@ -10,8 +10,11 @@ use lib.ListN.{length}
 use Rattle.spec_range.specs.Table.{table, padded}
 use Rattle.spec_range.proofs.Table.{table-same}
 use Rattle.spec_range.proofs.Tests.{and-left, and-right}
+use Rattle.spec_field.specs.Symbols.{gf}
+use Rattle.spec_word.specs.Word.{plus}
 use Rattle.word_array.specs.Stored.{place}
 use Rattle.word_array.proofs.Filled.{read-padded}
+use Rattle.word_array.proofs.Plus.{plus-at}
 use Rattle.sum_probe.specs.Sum.{adds, sums}
 
 pub lengths : (a b room : ℕ) → adds a b room ≡ true → (room ≤ 255) × (a ≡ room) × (b ≡ room)
@@ -26,8 +29,8 @@ unfolding sums
 refused a b out e = sym (ap (λ (t : Bool). cond t (table (length out) (λ j. bitXor (place a j) (place b j))) out) e)
 
 pub written : (a b out : List ℕ) {w out′ : List ℕ} → adds (length a) (length b) (length out) ≡ true
-    → w ≡ padded 255 (length out) (λ j. bitXor (place a j) (place b j)) → out′ ≡ table (length out) (place w) → out′ ≡ sums a b out
+    → ((p : ℕ) → w ≡ padded 255 (length out) (place (plus (gf p) (length out) a b))) → out′ ≡ table (length out) (place w) → out′ ≡ sums a b out
 unfolding sums
 written a b out e add store =
-    store ∙ table-same (length out) (λ k l. read-padded _ add (lengths _ _ _ e .0) l)
+    store ∙ table-same (length out) (λ k l. read-padded _ (add 1) (lengths _ _ _ e .0) l ∙ plus-at 1 (length out) a b l)
     ∙ sym (ap (λ (t : Bool). cond t (table (length out) (λ j. bitXor (place a j) (place b j))) out) e)

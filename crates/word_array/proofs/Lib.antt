@@ -1,3 +1,4 @@
 pub mod Filled
 pub mod Counted
 pub mod Eights
+pub mod Plus

@@ -1,10 +1,11 @@
 // Words of n symbols, held by value and zero from place n on. The contracts cite the definitions of specs/.
 ghost use mathlib.Core.Path.{_≡_};
-ghost use Prim.Native.Nat.{_+_, _*_, _≤_};
+ghost use Prim.Native.Nat.{ℕ, _+_, _*_, _/_, _≤_};
 ghost use lib.Bits.{bitXor};
 ghost use lib.ListN.{length};
 ghost use Rattle.spec_range.specs.Table.{table, padded};
-ghost use Rattle.spec_word.specs.Word.{distance};
+ghost use Rattle.spec_field.specs.Symbols.{gf};
+ghost use Rattle.spec_word.specs.Word.{distance, plus};
 ghost use Rattle.spec_word.specs.Division.{allZero};
 ghost use Rattle.word_array.specs.Stored.{place};
 use sizes::EIGHT;
@@ -38,31 +39,32 @@ pub fn store(w: &[u8], out: &mut [u8])
     }
 }
 
-// The first eights of the sum of two words, each packed in one number, so that a step adds eight symbols.
-fn add_eights(eights: usize, a: &[u8], b: &[u8]) -> Word
-    requires { ⌜ (8 * eights ≤ 255) × (8 * eights ≤ length (now a)) × (8 * eights ≤ length (now b)) ⌝ }
-    ensures { λ r. ⌜ r ≡ padded 255 (8 * eights) (λ j. bitXor (place (now (a .entry)) j) (place (now (b .entry)) j)) ⌝ }
+// Writes the sum of two lists of whole eights: a step adds eight symbols, packed in one number. All sums of words, and of rows of tables, are made of it.
+pub fn add_eights(a: &[u8], b: &[u8], out: &mut [u8])
+    requires { ⌜ (8 * (length (now out) / 8) ≡ length (now out)) × (length (now a) ≡ length (now out)) × (length (now b) ≡ length (now out)) ⌝ }
+    ensures { λ _. ⌜ now (out .exit) ≡ table (length (now (out .entry))) (λ j. bitXor (place (now (a .entry)) j) (place (now (b .entry)) j)) ⌝ }
 {
-    let mut w = [0u8; WIDTH];
+    let eights = out.len() / EIGHT;
     let mut i = 0;
     while i < eights {
         let at = EIGHT * i;
         let end = at + EIGHT;
         let x = word_packed::pack(&a[at..end]);
         let y = word_packed::pack(&b[at..end]);
-        word_packed::unpack(x ^ y, &mut w[at..end]);
+        word_packed::unpack(x ^ y, &mut out[at..end]);
         i += 1;
     }
-    w
 }
 
 // The sum of two words: whole eights packed, and the last seven places or fewer singly.
 pub fn add(n: usize, a: &[u8], b: &[u8]) -> Word
     requires { ⌜ (n ≤ 255) × (n ≤ length (now a)) × (n ≤ length (now b)) ⌝ }
-    ensures { λ r. ⌜ r ≡ padded 255 n (λ j. bitXor (place (now (a .entry)) j) (place (now (b .entry)) j)) ⌝ }
+    ensures { λ r. ⌜ ((p : ℕ) → r ≡ padded 255 n (place (plus (gf p) n (now (a .entry)) (now (b .entry))))) ⌝ }
 {
-    let mut w = add_eights(n / EIGHT, a, b);
-    let mut j = sizes::packed_places(n);
+    let mut w = [0u8; WIDTH];
+    let whole = sizes::packed_places(n);
+    add_eights(&a[0..whole], &b[0..whole], &mut w[0..whole]);
+    let mut j = whole;
     while j < n {
         w[j] = a[j] ^ b[j];
         j += 1;

@@ -3,10 +3,10 @@
 -- Assumes nothing.
 use mathlib.Core.Path.{_≡_, refl, sym, ap, ap₂, _∙_, fun-ext, subst}
 use mathlib.Core.Bool.{Bool, true, false, cond, _&&_, _||_}
-use mathlib.Core.Logic.{_≢_, ⊎-elim}
+use mathlib.Core.Logic.{_≢_}
 use mathlib.Core.List.{List}
 use Prim.Native.Nat.{ℕ, zero, suc, pred, _+_, _-_, _*_, _^_, _≤_, _<_, zero-le}
-use native.Mathlib.Nat.{not-suc-le-zero, le-refl, lt-irrefl, le-of-suc-le-suc, eq-or-lt-of-le}
+use native.Mathlib.Nat.{not-suc-le-zero, lt-irrefl, le-of-suc-le-suc}
 use native.Mathlib.Numerals.{add-one}
 use native.Mathlib.Decide.{decLt, ℕ-discrete}
 use native.Mathlib.Omega.{arith}
@@ -15,6 +15,7 @@ use lib.Bits.{bitXor}
 use lib.Dec.{eqb}
 use lib.ListN.{length, set, length-set}
 use lib.Seq.{getD-set-same, getD-set-other}
+use Rattle.spec_range.specs.Table.{table}
 use Rattle.spec_range.proofs.Fold.{fold-cong}
 use Rattle.spec_field.specs.Field.{FieldOps, FieldLaws}
 use Rattle.spec_field.specs.Symbols.{gf}
@@ -30,7 +31,7 @@ use Rattle.sizes.proofs.Lengths.{blocks-fit}
 use Rattle.word_array.specs.Stored.{place, Sizes, Stored}
 use Rattle.word_table.specs.Multiples.{entry, wordOf, Multiples}
 use Rattle.word_table.specs.Window.{Window}
-use Rattle.word_table.proofs.Window.{window-at}
+use Rattle.word_table.proofs.Window.{window-at, read-table}
 use Rattle.word_table.proofs.Rows.{rows-apart}
 use Rattle.word_divide.specs.Window.{Dividend, AddedAt, Remains, DividedBy}
 
@@ -60,25 +61,16 @@ dividend {n = n} sizes pos high low fits multiples room e symbol =
 pub added-none : (t : List ℕ) (from i : ℕ) (v : List ℕ) → AddedAt t from i 0 v v
 added-none t from i v = record { long = refl; low = λ k l. refl; added = λ j l. absurd (not-suc-le-zero l); high = λ k l. refl }
 
-pub added-more : {t : List ℕ} {from i j : ℕ} {v₀ v : List ℕ} → i + j < length v → AddedAt t from i j v₀ v
-    → AddedAt t from i (j + 1) v₀ (set v (i + j) (bitXor (place v (i + j)) (place t (from + j))))
-added-more {t} {from} {i} {j} {v₀} {v} l h =
+-- the places from i on were read, those of t from `from` on were added to them, and the sum was written there
+pub added-written : {t : List ℕ} {from i count : ℕ} {v₀ v old sum : List ℕ} → old ≡ table count (λ j. place v₀ (i + j))
+    → sum ≡ table count (λ j. bitXor (place old j) (place t (from + j))) → Window i count (place sum) v₀ v → AddedAt t from i count v₀ v
+added-written {t} {from} read add written =
     record {
-      long = length-set v (i + j) x ∙ h .long;
-      low = λ k b. getD-set-other v (i + j) k x 0 (omega arith) ∙ h .low k b;
-      added = λ m b.
-          let c : m ≤ j = omega arith in
-          ⊎-elim
-          (λ e. subst (λ (m : ℕ). place (set v (i + j) x) (i + m) ≡ bitXor (place v₀ (i + m)) (place t (from + m))) (sym e) here)
-          (λ b. getD-set-other v (i + j) (i + m) x 0 (omega arith) ∙ h .added m b) (eq-or-lt-of-le c);
-      high = λ k b. getD-set-other v (i + j) k x 0 (omega arith) ∙ h .high k (omega arith);
+      long = written .long;
+      low = written .low;
+      added = λ j l. written .at j l ∙ read-table _ add l ∙ ap (λ (x : ℕ). bitXor x (place t (from + j))) (read-table _ read l);
+      high = written .high;
     }
-  where
-    x : ℕ
-    x = bitXor (place v (i + j)) (place t (from + j))
-
-    here : place (set v (i + j) x) (i + j) ≡ bitXor (place v₀ (i + j)) (place t (from + j))
-    here = getD-set-same v (i + j) x 0 l ∙ ap (λ (y : ℕ). bitXor y (place t (from + j))) (h .high (i + j) (le-refl (i + j)))
 
 -- a part added, and one from its end on
 pub added-join : {t : List ℕ} {from from′ i i′ a b c : ℕ} {v₀ v v′ : List ℕ} → from′ ≡ from + a → i′ ≡ i + a → c ≡ a + b → AddedAt t from i a v₀ v

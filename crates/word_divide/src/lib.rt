@@ -44,11 +44,9 @@ fn add_block_at(t: &[u8], from: usize, i: usize, v: &mut [u8])
     requires { ⌜ (from + 64 ≤ length (now t)) × (i + 64 ≤ length (now v)) ⌝ }
     ensures { λ _. ⌜ AddedAt (now (t .entry)) from i 64 (now (v .entry)) (now (v .exit)) ⌝ }
 {
-    let mut j = 0;
-    while j < BLOCK {
-        v[i + j] = v[i + j] ^ t[from + j];
-        j += 1;
-    }
+    let mut sum = word_table::block(v, i);
+    word_table::add_block(t, from, &mut sum);
+    word_table::put_block(sum, i, v);
 }
 
 // Adds as many blocks.

@@ -147,16 +147,13 @@ fn put_double(p: u8, blocks: usize, c: usize, t: &mut [u8])
     }
 }
 
-// Writes the sum of two blocks from `to` on.
-fn put_sum(x: [u8; BLOCK], y: [u8; BLOCK], to: usize, t: &mut [u8])
-    requires { ⌜ to + 64 ≤ length (now t) ⌝ }
-    ensures { λ _. ⌜ Window to 64 (λ j. bitXor (place x j) (place y j)) (now (t .entry)) (now (t .exit)) ⌝ }
+// Adds the block of a table from `from` on to a block.
+pub fn add_block(t: &[u8], from: usize, sum: &mut [u8; BLOCK])
+    requires { ⌜ (from + 64 ≤ length (now t)) × (length (now sum) ≡ 64) ⌝ }
+    ensures { λ _. ⌜ now (sum .exit) ≡ table 64 (λ j. bitXor (place (now (sum .entry)) j) (place (now (t .entry)) (from + j))) ⌝ }
 {
-    let mut j = 0;
-    while j < BLOCK {
-        t[to + j] = x[j] ^ y[j];
-        j += 1;
-    }
+    let old = block(sum, 0);
+    word_array::add_eights(&old, &t[from..from + BLOCK], sum);
 }
 
 // Row 2c + 1 of a table: the word, which is row 1, added to row 2c.
@@ -170,9 +167,9 @@ pub fn put_next(blocks: usize, c: usize, t: &mut [u8])
     let to = from + first;
     let mut b = 0;
     while b < 2 * blocks {
-        let x = block(t, from + BLOCK * b);
-        let y = block(t, first + BLOCK * b);
-        put_sum(x, y, to + BLOCK * b, t);
+        let mut sum = block(t, from + BLOCK * b);
+        add_block(t, first + BLOCK * b, &mut sum);
+        put_block(sum, to + BLOCK * b, t);
         b += 1;
     }
 }
@@ -191,18 +188,6 @@ pub fn tabulate(p: u8, n: usize, s: &[u8], from: usize, t: &mut [u8])
         put_double(p, blocks, c, t);
         put_next(blocks, c, t);
         c += 1;
-    }
-}
-
-// Adds the block of a table from `from` on to a block.
-pub fn add_block(t: &[u8], from: usize, sum: &mut [u8; BLOCK])
-    requires { ⌜ (from + 64 ≤ length (now t)) × (length (now sum) ≡ 64) ⌝ }
-    ensures { λ _. ⌜ now (sum .exit) ≡ table 64 (λ j. bitXor (place (now (sum .entry)) j) (place (now (t .entry)) (from + j))) ⌝ }
-{
-    let mut j = 0;
-    while j < BLOCK {
-        sum[j] = sum[j] ^ t[from + j];
-        j += 1;
     }
 }
 

@@ -24,7 +24,7 @@ slice-aggregate-store c = search needs
 store-requires : tie.Need-store-requires
 store-requires c κs =
     let h = lengths _ _ _ (sym (c .before .before .before .before .fits2 .ensures) ∙ c .before .before .before .if1 .taken) in
-    omega (arith, h .0, ap length (c .before .before .add .ensures) ∙ padded-length 255 _ _)
+    omega (arith, h .0, ap length (c .before .before .add .ensures 1) ∙ padded-length 255 _ _)
 
 same-length : tie.Need-same-length
 same-length c = search needs

@@ -1,65 +1,68 @@
--- `word_table::add_block` meets its contract. The invariant: the places below j have the sum.
+-- `word_table::add_block` meets its contract: the block is read before it is written over.
 -- Assumes nothing.
-use Prim.Native.Nat.{_+_, _-_, _≤_}
-use mathlib.Core.Path.{_≡_}
+use mathlib.Core.Path.{ap, ap₂, _∙_}
+use Prim.Native.Nat.{_+_}
 use native.Mathlib.Omega.{arith}
-use native.Mathlib.Nat.{le-refl}
 use lib.Bits.{bitXor}
-use Rattle.spec_range.proofs.Loop.{Over, over-none, over-more, over-table}
+use Rattle.spec_range.proofs.Table.{table-same}
 use Rattle.word_array.specs.Stored.{place}
+use Rattle.word_array.proofs.Eights.{part-at}
+use Rattle.word_table.proofs.Window.{read-table}
 use borrow.Author.Needs.{needs}
 use Rattle.word_table.proofs.add_block.Statement.{statement}
 use Rattle.word_table.proofs.add_block.Tie as tie
+use Rattle.word_table.proofs.add_block.Reads as reads
+use Rattle.word_table.proofs.add_block.Lts as lts
+use Rattle.word_array.proofs.add_eights.Reads as add-eights-reads
+use Rattle.word_table.proofs.block.Reads as block-reads
 
-abbrev Inv-loop : tie.InvT-loop
-Inv-loop t from sum₀ j₀ sum j = (j ≤ 64) × Over j (λ j. bitXor (place sum₀ j) (place t (from + j))) sum₀ sum
+-- src/lib.rt:155:15
+block-requires : tie.Need-block-requires
+block-requires c κs = search needs
 
-abbrev μ-loop : tie.MeasureT-loop
-μ-loop t from sum₀ j₀ sum j = 64 - j
+-- src/lib.rt:156:28
+slice-aggregate-add-eights : tie.Need-slice-aggregate-add-eights
+slice-aggregate-add-eights c = search needs
 
-loop-holds : tie.Need-loop-holds Inv-loop μ-loop
-loop-holds c = (search needs, over-none _ _)
+-- src/lib.rt:156:43
+add-add-eights : tie.Need-add-add-eights
+add-add-eights c = search needs
 
-element-copy-out-sum : tie.Need-element-copy-out-sum Inv-loop μ-loop
-element-copy-out-sum c = search needs
+-- src/lib.rt:156:34
+sub-add-eights : tie.Need-sub-add-eights
+sub-add-eights c = search needs
 
-add-sum : tie.Need-add-sum Inv-loop μ-loop
-add-sum c = search needs
+-- src/lib.rt:156:34
+part-add-eights-start : tie.Need-part-add-eights-start
+part-add-eights-start c = search needs
 
-shared-slice-read-sum : tie.Need-shared-slice-read-sum Inv-loop μ-loop
-shared-slice-read-sum c = search needs
+-- src/lib.rt:156:34
+part-add-eights-end : tie.Need-part-add-eights-end
+part-add-eights-end c = search needs
 
-element-write-sum : tie.Need-element-write-sum Inv-loop μ-loop
-element-write-sum c = search needs
+-- src/lib.rt:156:5
+add-eights-requires : tie.Need-add-eights-requires
+add-eights-requires c κs = search needs
 
-add-j : tie.Need-add-j Inv-loop μ-loop
-add-j c = search needs
-
-loop-less : tie.Need-loop-less Inv-loop μ-loop
-loop-less c = search needs
-
-loop-again : tie.Need-loop-again Inv-loop μ-loop
-loop-again c =
-    let s = c .before .before .before .loop in
-    (search needs, over-more _ (omega arith) (rw (s .inv .1 .rest _ (le-refl (s .j)))) (s .inv .1))
-
-returns : tie.Need-returns Inv-loop μ-loop
+-- src/lib.rt:151:1
+returns : tie.Need-returns
 returns c =
-    let e : c .before .loop .j ≡ 64 = omega arith in
-    over-table _ _ _ _ (search needs) (rw e at (c .before .loop .inv .1))
+    let start = c .before .before .before .before .before .before .before .before in
+    let sum = start .args .sum .now in
+    let t = start .args .t .now in
+    let from = start .args .from in
+    rw (start .pre .1) at (c .add-eights .ensures)
+    ∙ table-same 64 (λ k l. ap₂ bitXor (read-table _ (c .before .before .before .before .block .ensures) l ∙ ap (place sum) (omega arith)) (part-at t from (from + 64) k (omega arith)))
 
 pub add-block-spec : {M : Type 1} → statement M
 add-block-spec =
     tie.close
     (tie.spec
-    Inv-loop
-    μ-loop
-    loop-holds
-    element-copy-out-sum
-    add-sum
-    shared-slice-read-sum
-    element-write-sum
-    add-j
-    loop-less
-    loop-again
+    block-requires
+    slice-aggregate-add-eights
+    add-add-eights
+    sub-add-eights
+    part-add-eights-start
+    part-add-eights-end
+    add-eights-requires
     returns)

@@ -51,23 +51,23 @@ add-block c = search needs
 block-requires : tie.Need-block-requires Inv-loop μ-loop
 block-requires c κs = search needs
 
-mul-block-2 : tie.Need-mul-block-2 Inv-loop μ-loop
-mul-block-2 c = search needs
+mul-add-block : tie.Need-mul-add-block Inv-loop μ-loop
+mul-add-block c = search needs
 
-add-block-2 : tie.Need-add-block-2 Inv-loop μ-loop
-add-block-2 c = search needs
+add-add-block : tie.Need-add-add-block Inv-loop μ-loop
+add-add-block c = search needs
 
-block-requires-2 : tie.Need-block-requires-2 Inv-loop μ-loop
-block-requires-2 c κs = search needs
+add-block-requires : tie.Need-add-block-requires Inv-loop μ-loop
+add-block-requires c κs = search needs
 
-mul-put-sum : tie.Need-mul-put-sum Inv-loop μ-loop
-mul-put-sum c = search needs
+mul-put-block : tie.Need-mul-put-block Inv-loop μ-loop
+mul-put-block c = search needs
 
-add-put-sum : tie.Need-add-put-sum Inv-loop μ-loop
-add-put-sum c = search needs
+add-put-block : tie.Need-add-put-block Inv-loop μ-loop
+add-put-block c = search needs
 
-put-sum-requires : tie.Need-put-sum-requires Inv-loop μ-loop
-put-sum-requires c κs = search needs
+put-block-requires : tie.Need-put-block-requires Inv-loop μ-loop
+put-block-requires c κs = search needs
 
 add-b : tie.Need-add-b Inv-loop μ-loop
 add-b c = search needs
@@ -77,18 +77,19 @@ loop-less c = search needs
 
 loop-again : tie.Need-loop-again Inv-loop μ-loop
 loop-again c =
-    let second = c .before .before .before .before in
-    let first = second .before .before in
-    let now = first .before .before .before in
+    let added = c .before .before .before .before in
+    let read = added .before .before .before in
+    let now = read .before .before .before in
     let s = now .before .before in
     let apart = rows-apart (128 * s .args .blocks) {b = 0} {c = 2 * s .args .c} (omega (arith, s .pre .0)) in (
       search needs,
       window-join refl (omega arith) (λ k l. refl)
-          (λ k l. ap₂ bitXor
-          (read-table _ (first .block .ensures) l ∙ now .loop .inv .1 .low _ (omega (arith, apart)) ∙ ap (place (s .args .t .now)) (omega arith))
-          (read-table _ (second .block2 .ensures) l ∙ now .loop .inv .1 .low _ (omega (arith, apart)) ∙ ap (place (s .args .t .now)) (omega arith)))
+          (λ k l. read-table _ (added .add-block .ensures) l
+          ∙ ap₂ bitXor
+          (read-table _ (read .block .ensures) l ∙ now .loop .inv .1 .low _ (omega (arith, apart)) ∙ ap (place (s .args .t .now)) (omega arith))
+          (now .loop .inv .1 .low _ (omega (arith, apart)) ∙ ap (place (s .args .t .now)) (omega arith)))
           (now .loop .inv .1)
-          (c .before .before .put-sum .ensures),
+          (c .before .before .put-block .ensures),
     )
 
 same-length : tie.Need-same-length Inv-loop μ-loop
@@ -113,12 +114,12 @@ put-next-spec =
     mul-block
     add-block
     block-requires
-    mul-block-2
-    add-block-2
-    block-requires-2
-    mul-put-sum
-    add-put-sum
-    put-sum-requires
+    mul-add-block
+    add-add-block
+    add-block-requires
+    mul-put-block
+    add-put-block
+    put-block-requires
     add-b
     loop-less
     loop-again
