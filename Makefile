@@ -31,7 +31,7 @@ test:
 cases:
 	@tests/show_cases
 
-# Every crate proved from nothing, without the edits that must be refused: seconds a crate, and in all.
+# Every crate proved from nothing, without the edits that must be refused: seconds a crate, its count of edits, their product, and in all.
 check-time:
 	@tests/check_time
 
