@@ -462,12 +462,6 @@ static void make_word(struct bytes *word, const struct bytes *book, struct shape
 
 /* --- A burst of an input. --- */
 
-/* M, how many words are made, and the lengths; messages are those of a game. */
-struct burst {
-    uint32_t words;
-    size_t made, received, answers, records, messages;
-};
-
 /* Mostly 1 to 16; else 0, up to 32, or a number with 1 to 16 in its lowest byte, or in its two lowest. */
 static uint32_t burst_words(struct input *input)
 {
@@ -489,19 +483,10 @@ static uint32_t burst_words(struct input *input)
     }
 }
 
-static struct burst burst_sizes(struct shape shape, struct input *input)
+/* How many words are made for an M. */
+static size_t words_made(uint32_t words)
 {
-    const size_t n = shape.n;
-    struct burst burst;
-    burst.words = burst_words(input);
-    burst.made = burst.words <= WORDS_MADE ? burst.words : 1 + (burst.words - 1) % MOST_WORDS;
-    burst.received = size(n * burst.made, input);
-    burst.answers = size(n * burst.made, input);
-    burst.records = size(burst.made, input);
-    burst.messages = size_or(shape.k * burst.made, n * burst.made, input);
-    burst.received = burst.received < MOST_BOOK ? burst.received : MOST_BOOK;
-    burst.answers = burst.answers < MOST_BOOK ? burst.answers : MOST_BOOK;
-    return burst;
+    return words <= WORDS_MADE ? words : 1 + (words - 1) % MOST_WORDS;
 }
 
 /* Mostly code words, mixed, some of them damaged, half of the time by one error at most, so that there are Whole games, and now and then one symbol
@@ -540,7 +525,9 @@ struct area {
     size_t len;
 };
 
-static struct area book_area, input_area, output_area, list_area;
+enum { INPUTS = 2, OUTPUTS = 2 };
+
+static struct area book_area, input_area[INPUTS], output_area[OUTPUTS];
 
 static void stop(const char *why)
 {
@@ -576,19 +563,50 @@ static void lay(struct area *area, const uint8_t *bytes, size_t len, int at_end)
 
 /* --- One call on both sides. --- */
 
-typedef uint32_t (*function)(const uint8_t *, size_t, const uint8_t *, size_t, uint8_t *, size_t);
+/* What a call is given: the codebook, its number, such as M, its inputs, and what each output holds before it. */
+struct call {
+    const struct bytes *book;
+    uint32_t number;
+    const struct bytes *input[INPUTS], *held[OUTPUTS];
+};
 
-/* Check in the form of the others. */
-static uint32_t library_check(const uint8_t *book, size_t book_len, const uint8_t *input, size_t input_len, uint8_t *output, size_t output_len)
+/* The buffers of a call on one side, lengths in bytes. */
+struct side {
+    const uint8_t *book;
+    size_t book_len;
+    uint32_t number;
+    const uint8_t *input[INPUTS];
+    size_t input_len[INPUTS];
+    uint8_t *output[OUTPUTS];
+    size_t output_len[OUTPUTS];
+};
+
+/* Every function of both sides in one form. */
+typedef uint32_t (*adapter)(const struct side *c);
+
+#define ONE_BY_ONE(name, called) \
+    static uint32_t name(const struct side *c) \
+    { \
+        return called(c->book, c->book_len, c->input[0], c->input_len[0], c->output[0], c->output_len[0]); \
+    }
+
+ONE_BY_ONE(library_code, shiftsum_code)
+ONE_BY_ONE(expected_code, reference_code)
+ONE_BY_ONE(library_read, shiftsum_read)
+ONE_BY_ONE(expected_read, reference_read)
+ONE_BY_ONE(library_remainder, shiftsum_remainder)
+ONE_BY_ONE(expected_remainder, reference_remainder)
+ONE_BY_ONE(library_decode, shiftsum_decode)
+ONE_BY_ONE(expected_decode, reference_decode)
+
+static uint32_t library_check(const struct side *c)
 {
-    (void)input, (void)input_len, (void)output, (void)output_len;
-    return shiftsum_check(book, book_len);
+    return shiftsum_check(c->book, c->book_len);
 }
 
-static uint32_t expected_check(const uint8_t *book, size_t book_len, const uint8_t *input, size_t input_len, uint8_t *output, size_t output_len)
+static uint32_t expected_check(const struct side *c)
 {
-    (void)input, (void)input_len, (void)output, (void)output_len;
-    return reference_check(book, book_len);
+    return reference_check(c->book, c->book_len);
 }
 
 /* What the result of a decode says. */
@@ -599,73 +617,108 @@ static void put_record(struct shiftsum_record *to, uint32_t result)
     to->changed = (uint8_t)SHIFTSUM_CHANGED(result);
 }
 
-/* Burst in the form of the others: M and the list stand beside. */
-static uint32_t words_given;
-
-static uint32_t library_burst(const uint8_t *book, size_t book_len, const uint8_t *input, size_t input_len, uint8_t *output, size_t output_len)
+static uint32_t library_burst(const struct side *c)
 {
-    struct shiftsum_record *list = (struct shiftsum_record *)list_area.buffer;
-    return shiftsum_burst(book, book_len, words_given, input, input_len, output, output_len, list, list_area.len / RECORD);
+    struct shiftsum_record *list = (struct shiftsum_record *)c->output[1];
+    return shiftsum_burst(c->book, c->book_len, c->number, c->input[0], c->input_len[0], c->output[0], c->output_len[0], list,
+                          c->output_len[1] / RECORD);
 }
 
 /* By what the second implementation says of the codebook and of each word. */
-static uint32_t expected_burst(const uint8_t *book, size_t book_len, const uint8_t *input, size_t input_len, uint8_t *output, size_t output_len)
+static uint32_t expected_burst(const struct side *c)
 {
-    struct shiftsum_record *list = (struct shiftsum_record *)(list_area.image + (list_area.buffer - list_area.pages));
-    const uint32_t checked = reference_check(book, book_len);
+    struct shiftsum_record *list = (struct shiftsum_record *)c->output[1];
+    const uint32_t checked = reference_check(c->book, c->book_len), words = c->number;
     uint8_t word[LARGEST];
     size_t n, m, place;
     if (SHIFTSUM_REFUSAL(checked) != 0)
         return checked;
-    if (words_given < 1 || words_given > MOST_WORDS)
+    if (words < 1 || words > MOST_WORDS)
         return 14;
-    n = ((size_t)1 << book[AT_S]) - 1;
-    if (input_len != n * words_given)
+    n = ((size_t)1 << c->book[AT_S]) - 1;
+    if (c->input_len[0] != n * words)
         return 9;
-    if (output_len != n * words_given || list_area.len != RECORD * words_given)
+    if (c->output_len[0] != n * words || c->output_len[1] != RECORD * words)
         return 10;
-    for (place = 0; place < input_len; place++)
-        if (input[place] >> book[AT_P] != 0)
+    for (place = 0; place < c->input_len[0]; place++)
+        if (c->input[0][place] >> c->book[AT_P] != 0)
             return 11;
-    for (m = 0; m < words_given; m++) {
+    for (m = 0; m < words; m++) {
         for (place = 0; place < n; place++)
-            word[place] = input[place * words_given + m];
-        put_record(&list[m], reference_decode(book, book_len, word, n, output + m * n, n));
+            word[place] = c->input[0][place * words + m];
+        put_record(&list[m], reference_decode(c->book, c->book_len, word, n, c->output[0] + m * n, n));
     }
     return 0;
 }
 
-/* Game in the form of the others. */
-static uint32_t library_game(const uint8_t *book, size_t book_len, const uint8_t *input, size_t input_len, uint8_t *output, size_t output_len)
+static uint32_t library_game(const struct side *c)
 {
-    return shiftsum_game(book, book_len, words_given, input, input_len, output, output_len);
+    return shiftsum_game(c->book, c->book_len, c->number, c->input[0], c->input_len[0], c->output[0], c->output_len[0]);
 }
 
-static uint32_t expected_game(const uint8_t *book, size_t book_len, const uint8_t *input, size_t input_len, uint8_t *output, size_t output_len)
+static uint32_t expected_game(const struct side *c)
 {
-    return reference_game(book, book_len, words_given, input, input_len, output, output_len);
+    return reference_game(c->book, c->book_len, c->number, c->input[0], c->input_len[0], c->output[0], c->output_len[0]);
 }
 
+/* What a buffer has: nothing where the function has no such buffer, a message, a word, a remainder, the words of a burst, their messages, their
+ * records. An input of one of these is made once for all functions that take it. */
+enum buffer { NOTHING, MESSAGE, WORD, REST, WORDS, MESSAGES, RECORDS, BUFFERS };
+
+/* What a function's number is. */
+enum number { NO_NUMBER, COUNT_OF_WORDS, NUMBERS };
+
+/* A row for each function: its numbers of refusal from 1 to the last, and another; the kinds that it answers with, and the one that leaves the
+ * outputs as they were. */
 enum { CHECK, CODE, READ, REMAINDER, DECODE, BURST, GAME, FUNCTIONS };
 
-static const struct {
+static const struct function {
     const char *name;
-    function library, reference;
-    unsigned refusals; /* the largest number that it can return, 14 aside */
+    adapter library, reference;
+    enum number number;
+    enum buffer input[INPUTS], output[OUTPUTS];
+    unsigned last_refusal, other_refusal;
+    const char *kinds;
+    char held;
 } functions[FUNCTIONS] = {
-    {"check", library_check, expected_check, 8},
-    {"code", shiftsum_code, reference_code, 11},
-    {"read", shiftsum_read, reference_read, 12},
-    {"remainder", shiftsum_remainder, reference_remainder, 11},
-    {"decode", shiftsum_decode, reference_decode, 11},
-    {"burst", library_burst, expected_burst, 11},
-    {"game", library_game, expected_game, 11},
+    {"check", library_check, expected_check, NO_NUMBER, {NOTHING}, {NOTHING}, 8, 0, "", 0},
+    {"code", library_code, expected_code, NO_NUMBER, {MESSAGE}, {WORD}, 11, 0, "", 0},
+    {"read", library_read, expected_read, NO_NUMBER, {WORD}, {MESSAGE}, 12, 0, "", 0},
+    {"remainder", library_remainder, expected_remainder, NO_NUMBER, {WORD}, {REST}, 11, 0, "", 0},
+    {"decode", library_decode, expected_decode, NO_NUMBER, {WORD}, {WORD}, 11, 0, "CMSX", 0},
+    {"burst", library_burst, expected_burst, COUNT_OF_WORDS, {WORDS}, {WORDS, RECORDS}, 11, 14, "CMSX", 0},
+    {"game", library_game, expected_game, COUNT_OF_WORDS, {WORDS}, {MESSAGES}, 11, 14, "WH", SHIFTSUM_HELD},
 };
+
+/* The bytes of a buffer, and a size that it may be mistaken for. */
+static size_t exact_size(enum buffer buffer, struct shape shape, size_t words)
+{
+    const size_t n = shape.n, k = shape.k, sizes[BUFFERS] = {0, k, n, n - k, n * words, k * words, RECORD * words};
+    return sizes[buffer];
+}
+
+static size_t other_size(enum buffer buffer, struct shape shape, size_t words)
+{
+    return buffer == MESSAGES ? shape.n * words : 2 * exact_size(buffer, shape, words);
+}
+
+static int has_input(int which, int i)
+{
+    return i < INPUTS && functions[which].input[i] != NOTHING;
+}
+
+static int has_output(int which, int i)
+{
+    return i < OUTPUTS && functions[which].output[i] != NOTHING;
+}
 
 static int can_refuse(int which, unsigned number)
 {
-    return number <= functions[which].refusals || ((which == BURST || which == GAME) && number == 14);
+    return number <= functions[which].last_refusal || number == functions[which].other_refusal;
 }
+
+/* M of the call that is under way. */
+static uint32_t words_given;
 
 /* Whether a word of this kind holds its game. */
 static int is_held(char kind)
@@ -676,7 +729,7 @@ static int is_held(char kind)
 /* Whether a call with this result leaves its output as it was. */
 static int writes_nothing(int which, uint32_t result)
 {
-    return SHIFTSUM_REFUSAL(result) != 0 || (which == GAME && SHIFTSUM_KIND(result) == SHIFTSUM_HELD);
+    return SHIFTSUM_REFUSAL(result) != 0 || (functions[which].held != 0 && SHIFTSUM_KIND(result) == functions[which].held);
 }
 
 static void print_bytes(const char *what, const uint8_t *bytes, size_t len)
@@ -727,8 +780,8 @@ static uint32_t faulty_forms(const char *fault, uint32_t result)
 /* The faults that a remainder could have, made of a right one. The word without its remainder is a code word. */
 __attribute__((no_sanitize("address"))) static uint32_t faulty_remainder(const char *fault, uint32_t result)
 {
-    volatile uint8_t *output = output_area.buffer;
-    const size_t n = input_area.len, rest = output_area.len, k = n - rest;
+    volatile uint8_t *output = output_area[0].buffer;
+    const size_t n = input_area[0].len, rest = output_area[0].len, k = n - rest;
     uint8_t word[LARGEST], quotient[LARGEST] = {0}, first;
     size_t place, nonzero = 0;
     if (strcmp(fault, "early") == 0 && result == 11)
@@ -739,7 +792,7 @@ __attribute__((no_sanitize("address"))) static uint32_t faulty_remainder(const c
         nonzero += output[place] != 0;
     if (strcmp(fault, "quotient") == 0) {
         for (place = 0; place < n; place++)
-            word[place] = (uint8_t)(input_area.buffer[place] ^ (place < rest ? output[place] : 0));
+            word[place] = (uint8_t)(input_area[0].buffer[place] ^ (place < rest ? output[place] : 0));
         reference_read(book_area.buffer, book_area.len, word, n, quotient, k);
         for (place = 0; place < rest; place++)
             output[place] = quotient[place];
@@ -755,7 +808,7 @@ __attribute__((no_sanitize("address"))) static uint32_t faulty_remainder(const c
             output[place] = 0;
     if (strcmp(fault, "undivided") == 0)
         for (place = 0; place < rest; place++)
-            output[place] = input_area.buffer[place];
+            output[place] = input_area[0].buffer[place];
     if (strcmp(fault, "zero") == 0)
         for (place = 0; place < rest; place++)
             output[place] = 0;
@@ -769,8 +822,8 @@ __attribute__((no_sanitize("address"))) static uint32_t faulty_remainder(const c
 /* The faults that code could have, made of a right result; the codebook is accepted. */
 __attribute__((no_sanitize("address"))) static uint32_t faulty_code(const char *fault, uint32_t result)
 {
-    volatile uint8_t *first = book_area.buffer, *input = input_area.buffer, *output = output_area.buffer;
-    const size_t len = input_area.len;
+    volatile uint8_t *first = book_area.buffer, *input = input_area[0].buffer, *output = output_area[0].buffer;
+    const size_t len = input_area[0].len;
     const struct bytes *book = lent_book();
     const struct shape shape = shape_of(book);
     uint8_t moved[LARGEST] = {0}, word[LARGEST];
@@ -806,15 +859,15 @@ static uint32_t faulty_refusal(const char *fault, uint32_t result)
     const struct shape shape = shape_of(lent_book());
     const uint32_t low = words_given & 255;
     size_t place = 0;
-    while (place < shape.n && place < input_area.len && input_area.buffer[place] < shape.q)
+    while (place < shape.n && place < input_area[0].len && input_area[0].buffer[place] < shape.q)
         place++;
     if (strcmp(fault, "sixteen") == 0 && words_given == MOST_WORDS)
         return 14;
     if (strcmp(fault, "byte") == 0 && result == 14 && low != words_given && low >= 1 && low <= MOST_WORDS)
-        return input_area.len == shape.n * low ? 0 : 9;
-    if (strcmp(fault, "order") == 0 && result == 14 && input_area.len != shape.n * words_given)
+        return input_area[0].len == shape.n * low ? 0 : 9;
+    if (strcmp(fault, "order") == 0 && result == 14 && input_area[0].len != shape.n * words_given)
         return 9;
-    if (strcmp(fault, "list") == 0 && result == 10 && output_area.len == shape.n * words_given)
+    if (strcmp(fault, "list") == 0 && result == 10 && output_area[0].len == shape.n * words_given)
         return 0;
     if (strcmp(fault, "first") == 0 && result == 11 && place == shape.n)
         return 0;
@@ -824,7 +877,7 @@ static uint32_t faulty_refusal(const char *fault, uint32_t result)
 /* The faults that a burst could have, made of a right one; the codebook is accepted. */
 __attribute__((no_sanitize("address"))) static uint32_t faulty_burst(const char *fault, uint32_t result)
 {
-    volatile uint8_t *output = output_area.buffer, *list = list_area.buffer;
+    volatile uint8_t *output = output_area[0].buffer, *list = output_area[1].buffer;
     const size_t n = shape_of(lent_book()).n;
     uint8_t answers[MOST_WORDS * LARGEST];
     struct shiftsum_record records[MOST_WORDS];
@@ -834,11 +887,11 @@ __attribute__((no_sanitize("address"))) static uint32_t faulty_burst(const char 
         list[0] = list[0];
     if (result != 0)
         return faulty_refusal(fault, result);
-    memcpy(answers, output_area.buffer, output_area.len);
-    memcpy(records, list_area.buffer, list_area.len);
+    memcpy(answers, output_area[0].buffer, output_area[0].len);
+    memcpy(records, output_area[1].buffer, output_area[1].len);
     for (m = 0; m < words_given; m++) {
         if (strcmp(fault, "row") == 0)
-            put_record(&records[m], reference_decode(book_area.buffer, book_area.len, input_area.buffer + m * n, n, answers + m * n, n));
+            put_record(&records[m], reference_decode(book_area.buffer, book_area.len, input_area[0].buffer + m * n, n, answers + m * n, n));
         for (place = 0; place < n; place++)
             output[strcmp(fault, "mixed") == 0 ? place * words_given + m : m * n + place] = answers[m * n + place];
         to = strcmp(fault, "reverse") == 0 ? words_given - 1 - m : m;
@@ -855,7 +908,7 @@ static char kind_of_word(size_t m)
     uint8_t word[LARGEST], answer[LARGEST];
     size_t place;
     for (place = 0; place < n; place++)
-        word[place] = input_area.buffer[place * words_given + m];
+        word[place] = input_area[0].buffer[place * words_given + m];
     return SHIFTSUM_KIND(reference_decode(book_area.buffer, book_area.len, word, n, answer, n));
 }
 
@@ -885,11 +938,11 @@ static uint32_t faulty_held(const char *fault, uint32_t result)
 /* The faults that the messages of a Whole game could have, made of right ones. */
 __attribute__((no_sanitize("address"))) static void faulty_messages(const char *fault)
 {
-    volatile uint8_t *output = output_area.buffer;
+    volatile uint8_t *output = output_area[0].buffer;
     const size_t k = shape_of(lent_book()).k;
     uint8_t messages[MOST_WORDS * LARGEST];
     size_t m, place;
-    memcpy(messages, output_area.buffer, output_area.len);
+    memcpy(messages, output_area[0].buffer, output_area[0].len);
     for (m = 0; m < words_given; m++)
         for (place = 0; place < k; place++) {
             if (strcmp(fault, "mixed") == 0)
@@ -897,15 +950,15 @@ __attribute__((no_sanitize("address"))) static void faulty_messages(const char *
             if (strcmp(fault, "reverse") == 0)
                 output[(words_given - 1 - m) * k + place] = messages[m * k + place];
             if (strcmp(fault, "unread") == 0)
-                output[m * k + place] = input_area.buffer[place * words_given + m];
+                output[m * k + place] = input_area[0].buffer[place * words_given + m];
         }
 }
 
 /* The faults that a game could have, made of a right one; the codebook is accepted. */
 __attribute__((no_sanitize("address"))) static uint32_t faulty_game(const char *fault, uint32_t result)
 {
-    volatile uint8_t *output = output_area.buffer;
-    const int as_words = output_area.len == shape_of(lent_book()).n * words_given;
+    volatile uint8_t *output = output_area[0].buffer;
+    const int as_words = output_area[0].len == shape_of(lent_book()).n * words_given;
     if (strncmp(fault, "game-", 5) != 0)
         return result;
     fault += 5;
@@ -950,26 +1003,48 @@ static uint32_t faulty_copies(const char *fault, uint32_t result)
 /* The faults that a round's sum could have, made of a right word: single places, or the eighth of each eight, left as they were received. */
 __attribute__((no_sanitize("address"))) static void faulty_sum(const char *fault)
 {
-    volatile uint8_t *output = output_area.buffer;
-    const size_t packed = output_area.len / EIGHT * EIGHT;
+    volatile uint8_t *output = output_area[0].buffer;
+    const size_t packed = output_area[0].len / EIGHT * EIGHT;
     size_t place;
-    for (place = 0; place < output_area.len; place++)
+    for (place = 0; place < output_area[0].len; place++)
         if ((strcmp(fault, "singles") == 0 && place >= packed) || (strcmp(fault, "eighth") == 0 && place < packed && place % EIGHT == EIGHT - 1))
-            output[place] = input_area.buffer[place];
+            output[place] = input_area[0].buffer[place];
 }
 
 /* The faults of the functions that have their own, where the codebook is accepted. */
 static uint32_t (*const faults[FUNCTIONS])(const char *, uint32_t) = {
     [CODE] = faulty_code, [REMAINDER] = faulty_remainder, [BURST] = faulty_burst, [GAME] = faulty_game};
 
+/* The faults that every function could have, 'result-NAME', 'output-NAME' and 'refused-NAME': another result, another byte at the end of its last
+ * output, a write to it though the call is refused. */
+__attribute__((no_sanitize("address"))) static uint32_t faulty_row(int which, const char *fault, uint32_t result)
+{
+    const char *name = strchr(fault, '-');
+    int last = 0;
+    if (name == NULL || strcmp(name + 1, functions[which].name) != 0)
+        return result;
+    if (strncmp(fault, "result-", 7) == 0)
+        return SHIFTSUM_REFUSAL(result) == 0 ? result ^ 0x10000 : result;
+    while (has_output(which, last + 1))
+        last++;
+    volatile uint8_t *output = output_area[last].buffer;
+    const size_t len = output_area[last].len;
+    if (strncmp(fault, "output-", 7) == 0 && !writes_nothing(which, result))
+        output[len - 1] ^= 1;
+    if (strncmp(fault, "refused-", 8) == 0 && SHIFTSUM_REFUSAL(result) > 8 && len > 0)
+        output[0] = output[0];
+    return result;
+}
+
 /* The faults that a library could have. They are done as the archive would do them, unseen by the sanitizer. */
 __attribute__((no_sanitize("address"))) static uint32_t faulty(int which, uint32_t result)
 {
     const char *fault = getenv("FAULT");
-    volatile uint8_t *book = book_area.buffer, *input = input_area.buffer, *output = output_area.buffer;
+    volatile uint8_t *book = book_area.buffer, *input = input_area[0].buffer, *output = output_area[0].buffer;
     const char kind = which == DECODE && SHIFTSUM_REFUSAL(result) == 0 ? SHIFTSUM_KIND(result) : '-';
     if (fault == NULL)
         return result;
+    result = faulty_row(which, fault, result);
     if (faults[which] != NULL)
         return result >= 1 && result <= 8 ? result : faults[which](fault, result);
     if (which == CHECK)
@@ -987,19 +1062,19 @@ __attribute__((no_sanitize("address"))) static uint32_t faulty(int which, uint32
     if (kind == SHIFTSUM_MENDED)
         faulty_sum(fault);
     if (strcmp(fault, "answer") == 0 && kind == SHIFTSUM_STALLED)
-        output[output_area.len - 1] ^= 1;
+        output[output_area[0].len - 1] ^= 1;
     /* A fault that few words show. */
     if (strcmp(fault, "seldom") == 0 && kind == SHIFTSUM_MENDED && SHIFTSUM_ROUNDS(result) == 2 && book[AT_P] == 2)
-        output[output_area.len - 1] ^= 1;
+        output[output_area[0].len - 1] ^= 1;
     if (strcmp(fault, "refused") == 0 && which == READ && result == 12)
         output[0] = output[0];
     if (strcmp(fault, "input") == 0 && kind == SHIFTSUM_CLEAN)
         input[0] = input[0];
     if (strcmp(fault, "beyond") == 0 && which == READ && result == 0)
-        output[output_area.len] = 0;
+        output[output_area[0].len] = 0;
     if (strcmp(fault, "before") == 0 && kind == SHIFTSUM_MENDED)
         output[-1] = 0;
-    if (strcmp(fault, "overread") == 0 && kind == SHIFTSUM_MENDED && input[input_area.len] == 0)
+    if (strcmp(fault, "overread") == 0 && kind == SHIFTSUM_MENDED && input[input_area[0].len] == 0)
         return result;
     return result;
 }
@@ -1031,7 +1106,7 @@ enum { OTHERS_LENGTH, OTHERS_BYTE_3, NO_BYTE_3_1, NO_BYTE_3_2, OTHERS_KIND, OTHE
 static unsigned long ways[WAYS];
 
 /* What libFuzzer takes as new ground beside the branches of this file: results not seen before, by the codebook's s and p. */
-enum { SEEN = 1 << 15 };
+enum { SEEN = 1 << 16 };
 __attribute__((section("__libfuzzer_extra_counters"))) static uint8_t seen[SEEN];
 
 /* In which of these ways a codebook is refused by the number. */
@@ -1067,7 +1142,7 @@ static void count_mixed(uint32_t result, struct shape shape, unsigned long *sort
     const uint32_t words = words_given, low = words & 255;
     const int accepted = SHIFTSUM_REFUSAL(result) == 0;
     size_t at = 0;
-    while (at < shape.n && at < input_area.len && input_area.buffer[at] < shape.q)
+    while (at < shape.n && at < input_area[0].len && input_area[0].buffer[at] < shape.q)
         at++;
     sorts[NO_WORD] += result == 14 && words == 0;
     sorts[ABOVE_16] += result == 14 && words > MOST_WORDS && words <= WORDS_MADE;
@@ -1081,16 +1156,17 @@ static void count_mixed(uint32_t result, struct shape shape, unsigned long *sort
 static uint8_t kinds_met[MOST_WORDS];
 static size_t met[128];
 
-static void count_burst(uint32_t result, struct shape shape, struct counts *own)
+static void count_burst(uint32_t result, const struct bytes *book, struct counts *own)
 {
+    const struct shape shape = shape_of(book);
     const uint32_t words = words_given;
     size_t at, unlike = 0;
     count_mixed(result, shape, own->bursts);
-    own->bursts[ANSWERS] += result == 10 && list_area.len == RECORD * words;
-    own->bursts[LIST] += result == 10 && output_area.len == shape.n * words;
+    own->bursts[ANSWERS] += result == 10 && output_area[1].len == RECORD * words;
+    own->bursts[LIST] += result == 10 && output_area[0].len == shape.n * words;
     memset(met, 0, sizeof met);
     for (at = 0; result == 0 && at < words; at++) {
-        kinds_met[at] = list_area.buffer[RECORD * at] % 128;
+        kinds_met[at] = output_area[1].buffer[RECORD * at] % 128;
         own->kinds[BURST][kinds_met[at]]++;
         met[kinds_met[at]]++;
         unlike += kinds_met[at] != kinds_met[0];
@@ -1099,13 +1175,14 @@ static void count_burst(uint32_t result, struct shape shape, struct counts *own)
 }
 
 /* The words are those of the burst before it; where that was refused, none was met. */
-static void count_game(uint32_t result, struct shape shape, struct counts *own)
+static void count_game(uint32_t result, const struct bytes *book, struct counts *own)
 {
+    const struct shape shape = shape_of(book);
     const uint32_t words = words_given;
     const size_t stalled = met[SHIFTSUM_STALLED], spent = met[SHIFTSUM_SPENT];
     const int accepted = SHIFTSUM_REFUSAL(result) == 0, whole = accepted && SHIFTSUM_KIND(result) == SHIFTSUM_WHOLE, held = accepted && !whole;
     count_mixed(result, shape, own->games);
-    own->games[AS_WORDS] += result == 10 && output_area.len == shape.n * words;
+    own->games[AS_WORDS] += result == 10 && output_area[0].len == shape.n * words;
     own->games[SIXTEEN_WHOLE] += whole && words == MOST_WORDS;
     own->games[MENDED_WHOLE] += whole && met[SHIFTSUM_MENDED] > 0;
     own->games[LAST_HELD] += held && words > 1 && stalled + spent == 1 && is_held((char)kinds_met[words - 1]);
@@ -1113,113 +1190,160 @@ static void count_game(uint32_t result, struct shape shape, struct counts *own)
     own->games[STALLED_AND_SPENT] += held && stalled > 0 && spent > 0;
 }
 
-static void count(int which, uint32_t result, const struct bytes *book)
+static void count_check(uint32_t result, const struct bytes *book, struct counts *own)
 {
-    const unsigned number = SHIFTSUM_REFUSAL(result), kind = result >> 24 & 127;
-    struct counts *own = &counts[which_form(book)];
-    unsigned mark = (unsigned)which;
-    own->calls[which]++;
-    if (which == BURST || which == GAME)
-        (which == BURST ? count_burst : count_game)(result, shape_of(book), own);
-    if (number != 0) {
-        own->refused[which][number]++;
-        seen[mark * 16 + number % 16] = 1;
-        if (which == CHECK)
-            count_ways(number, book);
-        if (which == CHECK && number == 8)
-            own->copies[copied(book)]++;
-        return;
-    }
-    own->accepted[which]++;
-    mark = mark * 64 + book->at[AT_S] % 8 * 8 + book->at[AT_P] % 8;
-    if (which == DECODE) {
-        unsigned rounds = SHIFTSUM_ROUNDS(result), changed = SHIFTSUM_CHANGED(result);
-        own->kinds[which][kind]++;
-        if (rounds > 1)
-            own->later[kind]++;
-        mark = mark * 4 + kind % 4;
-        mark = mark * 4 + (rounds < 4 ? rounds : 3);
-        mark = mark * 4 + (changed < 4 ? changed : 3);
-    }
-    if (which == BURST)
-        mark = mark * 64 + (words_given - 1) % MOST_WORDS * 4 + list_area.buffer[0] % 4;
-    if (which == GAME) {
-        const unsigned held = SHIFTSUM_HELD_WORDS(result);
-        own->kinds[which][kind]++;
-        mark = mark * 64 + (words_given - 1) % MOST_WORDS * 4 + (held < 4 ? held : 3);
-    }
-    seen[16 * FUNCTIONS + mark % (SEEN - 16 * FUNCTIONS)] = 1;
+    count_ways(SHIFTSUM_REFUSAL(result), book);
+    if (result == 8)
+        own->copies[copied(book)]++;
 }
 
 /* Whether the sums of a mended word changed packed places, and single ones. */
 static void count_sums(struct counts *own)
 {
-    const size_t n = output_area.len, packed = n / EIGHT * EIGHT;
-    own->sums[PACKED] += memcmp(output_area.buffer, input_area.buffer, packed) != 0;
-    own->sums[SINGLE] += memcmp(output_area.buffer + packed, input_area.buffer + packed, n - packed) != 0;
+    const size_t n = output_area[0].len, packed = n / EIGHT * EIGHT;
+    own->sums[PACKED] += memcmp(output_area[0].buffer, input_area[0].buffer, packed) != 0;
+    own->sums[SINGLE] += memcmp(output_area[0].buffer + packed, input_area[0].buffer + packed, n - packed) != 0;
+}
+
+static void count_decode(uint32_t result, const struct bytes *book, struct counts *own)
+{
+    const char kind = SHIFTSUM_KIND(result);
+    (void)book;
+    if (SHIFTSUM_REFUSAL(result) != 0)
+        return;
+    own->later[(unsigned)kind % 128] += SHIFTSUM_ROUNDS(result) > 1;
+    if (kind == SHIFTSUM_MENDED)
+        count_sums(own);
+}
+
+/* What libFuzzer is told of an accepted call, below 64. */
+static unsigned mark_decode(uint32_t result)
+{
+    const unsigned kind = (unsigned)SHIFTSUM_KIND(result), rounds = SHIFTSUM_ROUNDS(result), changed = SHIFTSUM_CHANGED(result);
+    return kind % 4 * 16 + (rounds < 4 ? rounds : 3) * 4 + (changed < 4 ? changed : 3);
+}
+
+static unsigned mark_burst(uint32_t result)
+{
+    (void)result;
+    return (words_given - 1) % MOST_WORDS * 4 + output_area[1].buffer[0] % 4;
+}
+
+static unsigned mark_game(uint32_t result)
+{
+    const unsigned held = SHIFTSUM_HELD_WORDS(result);
+    return (words_given - 1) % MOST_WORDS * 4 + (held < 4 ? held : 3);
+}
+
+/* What is counted of a function beside its results, and marked, where there is anything. */
+static const struct {
+    void (*count)(uint32_t result, const struct bytes *book, struct counts *own);
+    unsigned (*mark)(uint32_t result);
+} counted[FUNCTIONS] = {
+    [CHECK] = {count_check, NULL}, [DECODE] = {count_decode, mark_decode}, [BURST] = {count_burst, mark_burst}, [GAME] = {count_game, mark_game}};
+
+static void count(int which, uint32_t result, const struct bytes *book)
+{
+    const unsigned number = SHIFTSUM_REFUSAL(result);
+    struct counts *own = &counts[which_form(book)];
+    unsigned mark = (unsigned)which;
+    own->calls[which]++;
+    if (counted[which].count != NULL)
+        counted[which].count(result, book, own);
+    if (number != 0) {
+        own->refused[which][number]++;
+        seen[mark * 16 + number % 16] = 1;
+        return;
+    }
+    own->accepted[which]++;
+    own->kinds[which][result >> 24 & 127]++;
+    mark = mark * 64 + book->at[AT_S] % 8 * 8 + book->at[AT_P] % 8;
+    mark = mark * 64 + (counted[which].mark == NULL ? 0 : counted[which].mark(result));
+    seen[16 * FUNCTIONS + mark % (SEEN - 16 * FUNCTIONS)] = 1;
+}
+
+/* What an output is to hold after the call. */
+static uint8_t *image_of(struct area *area)
+{
+    return area->image + (area->buffer - area->pages);
 }
 
 /* Where library and second implementation differ, all that is needed to see why. */
-static void differs(int which, const char *what, uint32_t result, uint32_t expected, const struct bytes *book, const struct bytes *input,
-                    const struct bytes *held)
+static void differs(int which, const char *what, uint32_t result, uint32_t expected, const struct call *call)
 {
-    const uint8_t *image = output_area.image + (output_area.buffer - output_area.pages);
+    int i;
     fprintf(stderr, "differs: %s, %s\nlibrary  %#010x\nexpected %#010x\n", functions[which].name, what, (unsigned)result, (unsigned)expected);
-    print_bytes("library's output", output_area.buffer, output_area.len);
-    print_bytes("expected output", image, output_area.len);
-    print_bytes("output before the call", held->at, held->len);
-    if (which == BURST || which == GAME)
-        fprintf(stderr, "words %lu\n", (unsigned long)words_given);
-    if (which == BURST) {
-        print_bytes("library's list", list_area.buffer, list_area.len);
-        print_bytes("expected list", list_area.image + (list_area.buffer - list_area.pages), list_area.len);
+    for (i = 0; has_output(which, i); i++) {
+        print_bytes("library's output", output_area[i].buffer, output_area[i].len);
+        print_bytes("expected output", image_of(&output_area[i]), output_area[i].len);
+        print_bytes("output before the call", call->held[i]->at, call->held[i]->len);
     }
-    print_bytes("input", input->at, input->len);
-    print_bytes("codebook", book->at, book->len);
+    if (functions[which].number != NO_NUMBER)
+        fprintf(stderr, "number %lu\n", (unsigned long)call->number);
+    for (i = 0; has_input(which, i); i++)
+        print_bytes("input", call->input[i]->at, call->input[i]->len);
+    print_bytes("codebook", call->book->at, call->book->len);
     abort();
 }
 
-/* What of a burst's list is not as expected, if anything. */
-static const char *list_differs(void)
+/* What is not as expected after a call, if anything. */
+static const char *difference(int which)
 {
-    const uint8_t *image = list_area.image + (list_area.buffer - list_area.pages);
-    if (memcmp(list_area.buffer, image, list_area.len) != 0)
-        return "the records";
-    return memcmp(list_area.pages, list_area.image, ROOM) != 0 ? "what lies beside the records" : NULL;
+    static const char *const names[OUTPUTS] = {"the output", "the records"};
+    static const char *const beside[OUTPUTS] = {"what lies beside the output", "what lies beside the records"};
+    int i;
+    for (i = 0; has_output(which, i); i++) {
+        if (memcmp(output_area[i].buffer, image_of(&output_area[i]), output_area[i].len) != 0)
+            return names[i];
+        if (memcmp(output_area[i].pages, output_area[i].image, ROOM) != 0)
+            return beside[i];
+    }
+    for (i = 0; has_input(which, i); i++)
+        if (memcmp(input_area[i].pages, input_area[i].image, ROOM) != 0)
+            return "the input after the call";
+    return memcmp(book_area.pages, book_area.image, ROOM) != 0 ? "the codebook after the call" : NULL;
 }
 
-/* The list of a burst is laid out before. */
-static uint32_t compare(int which, const struct bytes *book, const struct bytes *input, const struct bytes *held, unsigned places)
+/* Lays out a call, and gives the buffers of both sides. The second implementation is called with the images of the outputs, which then are what the
+ * library is to leave. */
+static void lay_out(int which, const struct call *call, unsigned places, struct side *library, struct side *reference)
 {
-    uint8_t *output;
+    int i;
+    lay(&book_area, call->book->at, call->book->len, places & 1);
+    library->book = book_area.buffer, reference->book = call->book->at;
+    library->book_len = reference->book_len = call->book->len;
+    library->number = reference->number = words_given = call->number;
+    for (i = 0; has_input(which, i); i++) {
+        lay(&input_area[i], call->input[i]->at, call->input[i]->len, places & (i == 0 ? 2 : 16));
+        library->input[i] = input_area[i].buffer, reference->input[i] = call->input[i]->at;
+        library->input_len[i] = reference->input_len[i] = call->input[i]->len;
+    }
+    for (i = 0; has_output(which, i); i++) {
+        lay(&output_area[i], call->held[i]->at, call->held[i]->len, places & (i == 0 ? 4 : 8));
+        library->output[i] = output_area[i].buffer, reference->output[i] = image_of(&output_area[i]);
+        library->output_len[i] = reference->output_len[i] = call->held[i]->len;
+    }
+}
+
+static uint32_t compare(int which, const struct call *call, unsigned places)
+{
+    struct side library, reference;
     uint32_t expected, result;
-    lay(&book_area, book->at, book->len, places & 1);
-    lay(&input_area, input->at, input->len, places & 2);
-    lay(&output_area, held->at, held->len, places & 4);
-    /* The second implementation is called with the image, which then is what the library is to leave. */
-    output = output_area.image + (output_area.buffer - output_area.pages);
-    expected = functions[which].reference(book->at, book->len, input->at, input->len, output, held->len);
+    int i;
+    lay_out(which, call, places, &library, &reference);
+    expected = functions[which].reference(&reference);
     allow(&book_area, PROT_READ);
-    allow(&input_area, PROT_READ);
-    if (writes_nothing(which, expected))
-        allow(&output_area, PROT_READ);
-    if (writes_nothing(which, expected) && which == BURST)
-        allow(&list_area, PROT_READ);
-    result = functions[which].library(book_area.buffer, book->len, input_area.buffer, input->len, output_area.buffer, held->len);
+    for (i = 0; has_input(which, i); i++)
+        allow(&input_area[i], PROT_READ);
+    for (i = 0; has_output(which, i) && writes_nothing(which, expected); i++)
+        allow(&output_area[i], PROT_READ);
+    result = functions[which].library(&library);
     result = faulty(which, result);
     if (result != expected)
-        differs(which, "the result", result, expected, book, input, held);
-    if (memcmp(output_area.buffer, output, held->len) != 0)
-        differs(which, "the output", result, expected, book, input, held);
-    if (memcmp(output_area.pages, output_area.image, ROOM) != 0)
-        differs(which, "what lies beside the output", result, expected, book, input, held);
-    if (which == BURST && list_differs() != NULL)
-        differs(which, list_differs(), result, expected, book, input, held);
-    if (memcmp(book_area.pages, book_area.image, ROOM) != 0 || memcmp(input_area.pages, input_area.image, ROOM) != 0)
-        differs(which, "the codebook or the input after the call", result, expected, book, input, held);
-    count(which, result, book);
-    if (which == DECODE && SHIFTSUM_REFUSAL(result) == 0 && SHIFTSUM_KIND(result) == SHIFTSUM_MENDED)
-        count_sums(&counts[which_form(book)]);
+        differs(which, "the result", result, expected, call);
+    if (difference(which) != NULL)
+        differs(which, difference(which), result, expected, call);
+    count(which, result, call->book);
     return result;
 }
 
@@ -1243,24 +1367,26 @@ static void hold(struct bytes *held, size_t len, uint8_t first)
 }
 
 /* Codes, and reads where a word was coded: the message comes back, and then zeros. Whether the codebook is accepted. */
-static int code_and_read(const struct bytes *book, const struct bytes *message, const struct bytes *held, unsigned places)
+static int code_and_read(const struct call *call, unsigned places)
 {
     static struct bytes word, before;
-    const struct shape shape = shape_of(book);
-    const uint32_t result = compare(CODE, book, message, held, places);
+    const struct bytes *message = call->input[0];
+    const struct call again = {call->book, 0, {&word}, {&before}};
+    const struct shape shape = shape_of(call->book);
+    const uint32_t result = compare(CODE, call, places);
     size_t place;
     if (result != 0 && result < 9)
         return 0;
-    counts[which_form(book)].lengths[length_of(message->len, shape.k)][result]++;
+    counts[which_form(call->book)].lengths[length_of(message->len, shape.k)][result]++;
     if (result != 0)
         return 1;
     word.len = shape.n;
-    memcpy(word.at, output_area.buffer, shape.n);
+    memcpy(word.at, output_area[0].buffer, shape.n);
     hold(&before, shape.k, (uint8_t)places);
-    compare(READ, book, &word, &before, places);
+    compare(READ, &again, places);
     for (place = 0; place < shape.k; place++)
-        if (output_area.buffer[place] != (place < message->len ? message->at[place] : 0))
-            differs(READ, "what was coded", 0, 0, book, message, &before);
+        if (output_area[0].buffer[place] != (place < message->len ? message->at[place] : 0))
+            differs(READ, "what was coded", 0, 0, &again);
     return 1;
 }
 
@@ -1269,95 +1395,130 @@ static int code_and_read(const struct bytes *book, const struct bytes *message, 
 static void code_every_length(const struct bytes *book, uint8_t first, unsigned places, struct input *input)
 {
     static struct bytes message, held;
+    const struct call call = {book, 0, {&message}, {&held}};
     const struct shape shape = shape_of(book);
     size_t len;
     for (len = 0; len <= shape.k + 1; len += shape.k < 63 || len + 1 >= shape.k ? 1 : 1 + draw(input) % (shape.k - len), places++) {
         make_symbols(&message, len, shape.q, 0, input);
         hold(&held, shape.n, first);
-        if (!code_and_read(book, &message, &held, places))
+        if (!code_and_read(&call, places))
             return;
         if (draw(input) % 2 == 0)
             held.len = draw(input) % 2 == 0 ? shape.n - 1 : 0;
         else if (len > 0)
             message.at[draw(input) % len] |= (uint8_t)shape.q;
-        code_and_read(book, &message, &held, places);
+        code_and_read(&call, places);
     }
     counts[which_form(book)].every_length++;
 }
 
-/* Decodes, and again with one error more each time, since the words between few errors and many are the ones that take several rounds. */
-static void decode_some(const struct bytes *book, struct bytes *word, const struct bytes *held, unsigned places, struct input *input)
+/* Codes, and once more with every length where the input asks for it. */
+static void drive_code(const struct call *call, unsigned places, int every, struct input *input)
 {
-    const struct shape shape = shape_of(book);
-    unsigned more = 4;
-    if (products(book, shape) > MOST_PRODUCTS) {
+    code_and_read(call, places);
+    if (every)
+        code_every_length(call->book, draw(input), places, input);
+}
+
+/* Decodes, and again with one error more each time, since the words between few errors and many are the ones that take several rounds. */
+static void drive_decode(const struct call *call, unsigned places, int every, struct input *input)
+{
+    static struct bytes word;
+    const struct call more = {call->book, 0, {&word}, {call->held[0]}};
+    const struct shape shape = shape_of(call->book);
+    unsigned errors = 4;
+    (void)every;
+    if (products(call->book, shape) > MOST_PRODUCTS) {
         left_out++;
         return;
     }
-    while (SHIFTSUM_REFUSAL(compare(DECODE, book, word, held, places)) == 0 && more > 0) {
+    word = *call->input[0];
+    while (SHIFTSUM_REFUSAL(compare(DECODE, &more, places)) == 0 && errors > 0) {
         const uint8_t place = draw(input);
-        word->at[place % shape.n] ^= (uint8_t)(1 + draw(input) % (shape.q - 1));
-        more--;
+        word.at[place % shape.n] ^= (uint8_t)(1 + draw(input) % (shape.q - 1));
+        errors--;
     }
 }
 
-/* Decodes a burst, and takes it as a game. The symbols of one with a refused codebook are drawn. */
-static void decode_burst(const struct bytes *book, int accepted, const struct burst *burst, uint8_t first, unsigned places, struct input *input)
+/* The functions that are called more than once, or not always. */
+static void (*const drives[FUNCTIONS])(const struct call *, unsigned, int, struct input *) = {[CODE] = drive_code, [DECODE] = drive_decode};
+
+/* The buffers of an input, and the numbers. */
+struct made {
+    uint32_t numbers[NUMBERS];
+    struct bytes inputs[BUFFERS];
+    size_t output_len[FUNCTIONS][OUTPUTS];
+};
+
+/* Sizes first, so that what an input has left goes to the symbols. */
+static void make_sizes(struct made *made, struct shape shape, struct input *input)
 {
-    static struct bytes mixed, held;
-    const struct shape shape = shape_of(book);
-    if (accepted)
-        make_burst(&mixed, book, shape, burst->made, input);
-    else
-        make_symbols(&mixed, shape.n * burst->made, shape.q, 0, input);
-    resize(&mixed, burst->received, input);
-    words_given = burst->words;
-    hold(&held, RECORD * burst->records, first);
-    lay(&list_area, held.at, held.len, places & 8);
-    hold(&held, burst->answers, first);
-    compare(BURST, book, &mixed, &held, places);
-    hold(&held, burst->messages, first);
-    compare(GAME, book, &mixed, &held, places >> 1);
+    size_t words;
+    int which, i;
+    made->inputs[MESSAGE].len = message_size(shape.k, input);
+    made->inputs[WORD].len = size(shape.n, input);
+    made->numbers[COUNT_OF_WORDS] = burst_words(input);
+    words = words_made(made->numbers[COUNT_OF_WORDS]);
+    made->inputs[WORDS].len = size(shape.n * words, input);
+    for (which = 0; which < FUNCTIONS; which++)
+        for (i = 0; has_output(which, i); i++) {
+            const enum buffer buffer = functions[which].output[i];
+            const size_t unit = buffer == RECORDS ? RECORD : 1;
+            made->output_len[which][i] = unit * size_or(exact_size(buffer, shape, words) / unit, other_size(buffer, shape, words) / unit, input);
+            if (made->output_len[which][i] > MOST_BOOK)
+                made->output_len[which][i] = MOST_BOOK / unit * unit;
+        }
+    if (made->inputs[WORDS].len > MOST_BOOK)
+        made->inputs[WORDS].len = MOST_BOOK;
 }
 
+/* The symbols of the inputs. Those of a burst with a refused codebook are drawn. */
+static void make_inputs(struct made *made, const struct bytes *book, struct input *input)
+{
+    const struct shape shape = shape_of(book);
+    const size_t words = words_made(made->numbers[COUNT_OF_WORDS]);
+    const size_t message_len = made->inputs[MESSAGE].len, word_len = made->inputs[WORD].len, words_len = made->inputs[WORDS].len;
+    make_symbols(&made->inputs[MESSAGE], shape.k, shape.q, next(input), input);
+    make_word(&made->inputs[WORD], book, shape, &made->inputs[MESSAGE], next(input), input);
+    resize(&made->inputs[MESSAGE], message_len, input);
+    resize(&made->inputs[WORD], word_len, input);
+    if (SHIFTSUM_REFUSAL(reference_check(book->at, book->len)) == 0)
+        make_burst(&made->inputs[WORDS], book, shape, words, input);
+    else
+        make_symbols(&made->inputs[WORDS], shape.n * words, shape.q, 0, input);
+    resize(&made->inputs[WORDS], words_len, input);
+}
+
+/* All functions, each with its own places. */
 int LLVMFuzzerTestOneInput(const uint8_t *data, size_t len)
 {
-    static struct bytes book, message, word, held;
+    static struct bytes book, held[OUTPUTS];
+    static struct made made;
     struct input input = {data, len, 0};
-    struct shape shape;
-    struct burst burst;
-    unsigned places, every;
-    int accepted;
+    unsigned places;
+    int which, every, i;
     uint8_t first;
     make_book(&book, &input);
-    shape = shape_of(&book);
     places = next(&input);
     first = next(&input);
-    /* Sizes first, so that what an input has left goes to the symbols. */
-    const size_t message_len = message_size(shape.k, &input), word_len = size(shape.n, &input);
-    const size_t coded_len = size(shape.n, &input), read_len = size(shape.k, &input), answer_len = size(shape.n, &input);
-    const size_t rest_len = size(shape.n - shape.k, &input);
-    burst = burst_sizes(shape, &input);
-    every = next(&input);
+    make_sizes(&made, shape_of(&book), &input);
+    every = next(&input) == EVERY;
     input.drawn = (uint32_t)next_two(&input);
-    make_symbols(&message, shape.k, shape.q, next(&input), &input);
-    make_word(&word, &book, shape, &message, next(&input), &input);
-    resize(&message, message_len, &input);
-    resize(&word, word_len, &input);
-
-    hold(&held, 0, 0);
-    accepted = SHIFTSUM_REFUSAL(compare(CHECK, &book, &held, &held, places)) == 0;
-    hold(&held, coded_len, first);
-    code_and_read(&book, &message, &held, places);
-    if (every == EVERY)
-        code_every_length(&book, first, places, &input);
-    hold(&held, read_len, first);
-    compare(READ, &book, &word, &held, places >> 3);
-    hold(&held, rest_len, first);
-    compare(REMAINDER, &book, &word, &held, places >> 4);
-    hold(&held, answer_len, first);
-    decode_some(&book, &word, &held, places >> 5, &input);
-    decode_burst(&book, accepted, &burst, first, places >> 2, &input);
+    make_inputs(&made, &book, &input);
+    for (which = 0; which < FUNCTIONS; which++) {
+        struct call call = {&book, made.numbers[functions[which].number], {NULL}, {NULL}};
+        const unsigned own_places = places * 257 >> which % 8;
+        for (i = 0; has_input(which, i); i++)
+            call.input[i] = &made.inputs[functions[which].input[i]];
+        for (i = 0; has_output(which, i); i++) {
+            hold(&held[i], made.output_len[which][i], first);
+            call.held[i] = &held[i];
+        }
+        if (drives[which] != NULL)
+            drives[which](&call, own_places, every, &input);
+        else
+            compare(which, &call, own_places);
+    }
     return 0;
 }
 
@@ -1391,23 +1552,25 @@ static void print_sorts(const char *form, const char *what, const unsigned long 
 
 /* The numbers of the table's columns: 13 is met by no function here. */
 static const unsigned numbers[] = {1, 2, 3, 4, 5, 6, 7, 8, 9, 10, 11, 12, 14};
-enum { NUMBERS = sizeof numbers / sizeof numbers[0] };
+enum { REFUSALS = sizeof numbers / sizeof numbers[0] };
 
 /* The letters of the table's columns: the kinds of a word's answer, and those of a game's. */
 static const char letters[] = "CMSXWH";
-enum { KINDS_OF_WORDS = 4, KINDS = sizeof letters - 1 };
+enum { KINDS = sizeof letters - 1 };
 
 /* A line of the table: a dash where a function has no such result. */
 static void print_function(const char *form, const struct counts *own, int which)
 {
+    char name[32];
     int column;
-    printf("%5s%-9s %9lu %9lu", form, functions[which].name, own->calls[which], own->accepted[which]);
+    snprintf(name, sizeof name, "%s%s:", form, functions[which].name);
+    printf("%-15s %9lu %9lu", name, own->calls[which], own->accepted[which]);
     for (column = 0; column < KINDS; column++)
-        if (which == GAME ? column >= KINDS_OF_WORDS : (which == DECODE || which == BURST) && column < KINDS_OF_WORDS)
+        if (strchr(functions[which].kinds, letters[column]) != NULL)
             printf(" %7lu", own->kinds[which][(unsigned)letters[column]]);
         else
             printf(" %7s", "-");
-    for (column = 0; column < NUMBERS; column++)
+    for (column = 0; column < REFUSALS; column++)
         if (can_refuse(which, numbers[column]))
             printf(" %6lu", own->refused[which][numbers[column]]);
         else
@@ -1424,8 +1587,8 @@ static void print_form(const char *form, const struct counts *own)
     int which;
     for (which = 0; which < FUNCTIONS; which++)
         print_function(form, own, which);
-    printf("%5s%-9s %9lu %9s %7s", form, "later", later['M'] + later['S'] + later['X'], "-", "-");
-    printf(" %7lu %7lu %7lu\n", later['M'], later['S'], later['X']);
+    printf("%slater: %lu - -", form, later['M'] + later['S'] + later['X']);
+    printf(" %lu %lu %lu\n", later['M'], later['S'], later['X']);
     printf("%scopies equal %lu turned %lu turned-and-scaled %lu\n", form, copies[EQUAL], copies[TURNED], copies[TURNED_AND_SCALED]);
     printf("%ssums packed %lu single %lu\n", form, own->sums[PACKED], own->sums[SINGLE]);
     print_lengths(form, own);
@@ -1441,10 +1604,10 @@ static void print_counts(void)
                                             "place-127-or-more:4"};
     unsigned long all = 0;
     int way, which;
-    printf("%5s%-9s %9s %9s", "", "result", "calls", "accepted");
+    printf("%-15s %9s %9s", "result", "calls", "accepted");
     for (which = 0; which < KINDS; which++)
         printf(" %7c", letters[which]);
-    for (which = 0; which < NUMBERS; which++)
+    for (which = 0; which < REFUSALS; which++)
         printf(" %6u", numbers[which]);
     printf("\n");
     print_form("", &counts[IN_SHORT]);
@@ -1454,7 +1617,7 @@ static void print_counts(void)
         printf(" %s %lu", names[way], ways[way]);
     for (which = 0; which < FUNCTIONS; which++)
         all += counts[IN_SHORT].calls[which] + counts[IN_LONG].calls[which];
-    printf("\ncalls: %lu; decodes left out as too slow: %lu\n", all, left_out);
+    printf("\n%lu calls; decodes left out as too slow: %lu\n", all, left_out);
     fflush(stdout);
 }
 
@@ -1479,13 +1642,17 @@ static void write_input(const char *folder, size_t number, const struct bytes *p
 static void write_seed(const char *folder, size_t number, const struct bytes *book, const struct bytes *edits, int every)
 {
     static struct bytes parts[3];
-    const uint8_t drawn = (uint8_t)(number / SEEDS_EACH);
-    const uint8_t sizes[] = {drawn, drawn, 0, 0, 0, 0, 0, 0, (uint8_t)(17 * number), drawn, 0, 0, 0, 0};
+    const uint8_t drawn = (uint8_t)(number / SEEDS_EACH), exact = 0;
+    const uint8_t sizes[] = {drawn, drawn, exact, exact, (uint8_t)(17 * number), drawn, exact};
     const uint8_t rest[] = {(uint8_t)(every ? EVERY : 0), drawn, 1, 0, (uint8_t)(drawn % 5 * 8)};
+    int which, i;
     parts[0] = *book;
     parts[1] = *edits;
     parts[2].len = 0;
     append(&parts[2], sizes, sizeof sizes);
+    for (which = 0; which < FUNCTIONS; which++)
+        for (i = 0; has_output(which, i); i++)
+            append(&parts[2], &exact, 1);
     append(&parts[2], rest, sizeof rest);
     write_input(folder, number, parts, 3);
 }
@@ -1528,10 +1695,12 @@ int LLVMFuzzerInitialize(int *argc, char ***argv)
         write_seeds(getenv("SEEDS"));
         exit(0);
     }
+    int i;
     make_area(&book_area);
-    make_area(&input_area);
-    make_area(&output_area);
-    make_area(&list_area);
+    for (i = 0; i < INPUTS; i++)
+        make_area(&input_area[i]);
+    for (i = 0; i < OUTPUTS; i++)
+        make_area(&output_area[i]);
     atexit(print_counts);
     return 0;
 }
