@@ -1,6 +1,6 @@
--- A map of fields keeps 0 and inverses and tells symbols apart. Squaring is one.
+-- A map of fields keeps 0 and inverses and is one to one.
 -- Assumes nothing.
-use mathlib.Core.Path.{_≡_, sym, ap, ap₂, _∙_}
+use mathlib.Core.Path.{_≡_, sym, ap, _∙_}
 use Prim.Native.Nat.{ℕ, _<_}
 use native.Mathlib.Nat.{pos-of-ne-zero}
 use native.Mathlib.Decide.{ℕ-discrete}
@@ -44,30 +44,3 @@ module _ {F F′ : FieldOps} (laws : FieldLaws F) (laws′ : FieldLaws F′) (M 
     where
       not-zero : a ≡ 0 → ⊥
       not-zero e = omega (arith, pos, e)
-
--- ---- squares
-
-module _ (F : FieldOps) (laws : FieldLaws F) where
-  open FieldOps F using (q, add as _⊕_, mul as _⊗_)
-  open FieldLaws laws using (one-below, add-assoc, add-zero, add-self, mul-below, mul-comm, mul-assoc, mul-add, mul-one)
-
-  infixl 60 _⊕_
-  infixl 70 _⊗_
-  -- the mixed terms are equal
-  pub square-add : (a b : ℕ) → (a ⊕ b) ⊗ (a ⊕ b) ≡ a ⊗ a ⊕ b ⊗ b
-  square-add a b =
-      mul-add (a ⊕ b) a b ∙ ap₂ _⊕_ (L.add-mul F laws a b a) (L.add-mul F laws a b b)
-      ∙ add-assoc (a ⊗ a) (b ⊗ a) (a ⊗ b ⊕ b ⊗ b)
-      ∙ ap (a ⊗ a ⊕_) (sym (add-assoc (b ⊗ a) (a ⊗ b) (b ⊗ b)) ∙ ap (_⊕ b ⊗ b) (ap (_⊕ a ⊗ b) (mul-comm b a) ∙ add-self (a ⊗ b)) ∙ L.zero-add F laws (b ⊗ b))
-
-  pub square-mul : (a b : ℕ) → a ⊗ b ⊗ (a ⊗ b) ≡ a ⊗ a ⊗ (b ⊗ b)
-  square-mul a b = mul-assoc a b (a ⊗ b) ∙ ap (a ⊗_) (L.mul-left-comm F laws b a b) ∙ sym (mul-assoc a a (b ⊗ b))
-
-  pub squaring : FieldMap F F
-  squaring = record {
-    image = λ a. a ⊗ a;
-    image-below = λ a _. mul-below a a;
-    image-one = mul-one 1 one-below;
-    image-add = λ a b _ _. square-add a b;
-    image-mul = λ a b _ _. square-mul a b;
-  }

@@ -4,7 +4,7 @@ use mathlib.Core.Path.{_≡_}
 use Prim.Native.Nat.{ℕ, _<_}
 use Rattle.spec_field.specs.Field.{FieldOps}
 
--- That it keeps 0 and tells symbols apart follows: the laws image-zero and image-apart.
+-- That it keeps 0 and is one to one follows: image-zero, image-apart.
 pub record FieldMap (F F′ : FieldOps) : Type 0 where
   pub image : ℕ → ℕ
   pub image-below : (a : ℕ) → a < F .q → image a < F′ .q
