@@ -62,7 +62,8 @@ over-part {at} {m} {end} {n} {f} {g} {w₀} {w} {v} e is l q s h =
 -- zeros of which the first m places are written over as one part
 pub held-front : {size m : ℕ} {f : ℕ → ℕ} {v : List ℕ} → m ≤ size → v ≡ table m f → Held size m f (putMid 0 (m - 0) (replicate size 0) v)
 held-front {size} {m} {f} l e =
-    over-held (over-part {m = m} (omega arith) refl (omega (arith, length-replicate {A = ℕ} size 0)) e (λ k b. ap f (omega arith)) (over-none f (replicate size 0)))
+    over-held
+    (over-part {m = m} (omega arith) refl (omega (arith, length-replicate {A = ℕ} size 0)) e (λ k b. ap f (omega arith)) (over-none f (replicate size 0)))
 
 pub zero-padded : (size n : ℕ) (f : ℕ → ℕ) → ((k : ℕ) → k < n → f k ≡ 0) → replicate size 0 ≡ padded size n f
 zero-padded size n f z =

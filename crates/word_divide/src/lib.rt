@@ -39,7 +39,8 @@ pub fn short_quotient_room() -> [u8; BLOCK]
     [0; BLOCK]
 }
 
-// Adds the block of a table from `from` on to the places from i on.
+// Adds the block of a table from `from` on to the places from i on. The sum is made in a block of its own: written straight into v, it is compiled with a
+// test whether t and v overlap.
 fn add_block_at(t: &[u8], from: usize, i: usize, v: &mut [u8])
     requires { ⌜ (from + 64 ≤ length (now t)) × (i + 64 ≤ length (now v)) ⌝ }
     ensures { λ _. ⌜ AddedAt (now (t .entry)) from i 64 (now (v .entry)) (now (v .exit)) ⌝ }

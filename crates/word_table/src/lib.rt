@@ -147,7 +147,7 @@ fn put_double(p: u8, blocks: usize, c: usize, t: &mut [u8])
     }
 }
 
-// Adds the block of a table from `from` on to a block.
+// Adds the block of a table from `from` on to a block, which is read first, since the sum is written over it.
 pub fn add_block(t: &[u8], from: usize, sum: &mut [u8; BLOCK])
     requires { ⌜ (from + 64 ≤ length (now t)) × (length (now sum) ≡ 64) ⌝ }
     ensures { λ _. ⌜ now (sum .exit) ≡ table 64 (λ j. bitXor (place (now (sum .entry)) j) (place (now (t .entry)) (from + j))) ⌝ }

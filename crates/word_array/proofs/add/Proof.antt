@@ -1,3 +1,5 @@
+-- `word_array::add` meets its contract. The invariant: the places below j hold the sum.
+-- Assumes nothing.
 use Prim.Native.Nat.{_-_, _≤_}
 use mathlib.Core.Path.{refl, _∙_}
 use native.Mathlib.Omega.{arith}
@@ -52,11 +54,13 @@ add-eights-requires c κs = search needs
 
 loop-holds : tie.Need-loop-holds Inv-loop μ-loop
 loop-holds c =
-    let places = c .before .before .before .before .before in
+    let cut = c .before .before in
+    let places = cut .before .before .before in
     let start = places .before .before .before in
     let whole = places .packed-places .ensures in (
       omega (arith, whole),
-      held-front (omega (arith, whole, start .pre .0)) (front-sum (start .args .a .now) (start .args .b .now) _ (omega (arith, c .before .before .w .given .1)) (c .before .add-eights .ensures)),
+      held-front (omega (arith, whole, start .pre .0))
+          (front-sum (start .args .a .now) (start .args .b .now) _ (omega (arith, cut .w .given .1)) (c .before .add-eights .ensures)),
     )
 
 shared-slice-read-w : tie.Need-shared-slice-read-w Inv-loop μ-loop

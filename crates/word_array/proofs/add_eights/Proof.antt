@@ -72,11 +72,12 @@ loop-less c = search needs
 
 loop-again : tie.Need-loop-again Inv-loop μ-loop
 loop-again c =
-    let turn = c .before .before .before .before .before .before .before .before .before in
+    let second = c .before .before .before .before in
+    let turn = second .before .before .before .before .before in
     let start = turn .before .before .before .before in (
       search needs,
       over-part refl (omega arith) (omega (arith, turn .loop .inv .1 .long)) (c .before .before .unpack .ensures)
-          (part-sum (start .args .a .now) (start .args .b .now) _ (c .before .before .before .before .before .before .pack .ensures) (c .before .before .before .before .pack2 .ensures))
+          (part-sum (start .args .a .now) (start .args .b .now) _ (second .before .before .pack .ensures) (second .pack2 .ensures))
           (turn .loop .inv .1),
     )
 

@@ -11,48 +11,37 @@ use Rattle.word_table.proofs.Window.{read-table}
 use borrow.Author.Needs.{needs}
 use Rattle.word_table.proofs.add_block.Statement.{statement}
 use Rattle.word_table.proofs.add_block.Tie as tie
-use Rattle.word_table.proofs.add_block.Reads as reads
-use Rattle.word_table.proofs.add_block.Lts as lts
-use Rattle.word_array.proofs.add_eights.Reads as add-eights-reads
-use Rattle.word_table.proofs.block.Reads as block-reads
 
--- src/lib.rt:155:15
 block-requires : tie.Need-block-requires
 block-requires c κs = search needs
 
--- src/lib.rt:156:28
 slice-aggregate-add-eights : tie.Need-slice-aggregate-add-eights
 slice-aggregate-add-eights c = search needs
 
--- src/lib.rt:156:43
 add-add-eights : tie.Need-add-add-eights
 add-add-eights c = search needs
 
--- src/lib.rt:156:34
 sub-add-eights : tie.Need-sub-add-eights
 sub-add-eights c = search needs
 
--- src/lib.rt:156:34
 part-add-eights-start : tie.Need-part-add-eights-start
 part-add-eights-start c = search needs
 
--- src/lib.rt:156:34
 part-add-eights-end : tie.Need-part-add-eights-end
 part-add-eights-end c = search needs
 
--- src/lib.rt:156:5
 add-eights-requires : tie.Need-add-eights-requires
 add-eights-requires c κs = search needs
 
--- src/lib.rt:151:1
 returns : tie.Need-returns
 returns c =
-    let start = c .before .before .before .before .before .before .before .before in
-    let sum = start .args .sum .now in
-    let t = start .args .t .now in
+    let read = c .before .before .before .before in
+    let start = read .before .before .before .before in
     let from = start .args .from in
     rw (start .pre .1) at (c .add-eights .ensures)
-    ∙ table-same 64 (λ k l. ap₂ bitXor (read-table _ (c .before .before .before .before .block .ensures) l ∙ ap (place sum) (omega arith)) (part-at t from (from + 64) k (omega arith)))
+    ∙ table-same 64 (λ k l. ap₂ bitXor
+    (read-table _ (read .block .ensures) l ∙ ap (place (start .args .sum .now)) (omega arith))
+    (part-at (start .args .t .now) from (from + 64) k (omega arith)))
 
 pub add-block-spec : {M : Type 1} → statement M
 add-block-spec =
