@@ -66,7 +66,9 @@ round-requires c κs =
     }
 
 add-made : tie.Need-add-made Inv-loop μ-loop
-add-made c = search (needs, c .before .before .before .before .before .before .before .before .before .before .loop-test .taken, c .before .before .before .before .before .before .before .before .before .before .before .before .before .before .before .before .good)
+add-made c =
+    let turn = c .before .before .before .before .before .before .before .before .before .before in
+    search (needs, turn .loop-test .taken, turn .before .before .before .before .before .before .good)
 
 enum-told : tie.Need-enum-told Inv-loop μ-loop
 enum-told c = search needs

@@ -30,6 +30,9 @@ degree-below : (c : tie.Start) → c .args .c .degree < c .args .c .n
 unfolding bookOf
 degree-below c = let h = c .pre in rw (h .degree-is, h .read .sized .n-is) (degree-lt _ _ (rw (h .read .sized .n-is) at (h .read .sized .n-low)))
 
+degree-fits : (c : tie.Start) → c .args .c .degree ≤ 255
+degree-fits c = omega (arith, degree-below c, read-sizes (c .pre .read) .n-high)
+
 -- and has its symbol in the book
 leading : (c : tie.Start) → bodyPlace (c .args .book .now) generatorAt (c .args .c .degree) ≡ bookOf (c .args .book .now) .generator (bookOf (c .args .book .now) .degree)
 leading c =
@@ -102,12 +105,13 @@ slice-aggregate-is-zero c = search needs
 is-zero-requires : tie.Need-is-zero-requires
 is-zero-requires c κs =
     let s = c .before .before .before .before .before .before .before .before .before .before .before .before .before .before .before in
-    let below = degree-below s in
-    let high = read-sizes (s .pre .read) .n-high in
-    (omega (arith, below, high), search (needs, below, high))
+    (degree-fits s, search (needs, degree-below s, degree-fits s))
 
 returns-3 : tie.Need-returns-3
-returns-3 c = divided (c .before .before .before .before .before .before .before .before .before .before .before .before .before .before .before .before) (c .before .before .before .before .before .before .before .before .before .before .before .before .before .if1 .left) (c .before .before .before .before .before .before .before .before .before .before .before .if2 .left) (c .before .before .before .before .divide-unity .ensures) (c .is-zero .ensures)
+returns-3 c =
+    let divide = c .before .before .before .before in
+    let tested = divide .before .before .before .before .before .before .before in
+    divided (tested .before .before .before .before .before) (tested .before .before .if1 .left) (tested .if2 .left) (divide .divide-unity .ensures) (c .is-zero .ensures)
 
 room-requires : tie.Need-room-requires
 room-requires c κs = search needs
@@ -135,12 +139,13 @@ slice-aggregate-is-zero-2 c = search needs
 is-zero-requires-2 : tie.Need-is-zero-requires-2
 is-zero-requires-2 c κs =
     let s = c .before .before .before .before .before .before .before .before .before .before .before .before .before .before .before in
-    let below = degree-below s in
-    let high = read-sizes (s .pre .read) .n-high in
-    (omega (arith, below, high), search (needs, below, high))
+    (degree-fits s, search (needs, degree-below s, degree-fits s))
 
 returns-4 : tie.Need-returns-4
-returns-4 c = divided (c .before .before .before .before .before .before .before .before .before .before .before .before .before .before .before .before) (c .before .before .before .before .before .before .before .before .before .before .before .before .before .if1 .left) (c .before .before .before .before .before .before .before .before .before .before .before .if2 .left) (c .before .before .before .before .divide-unity2 .ensures) (c .is-zero2 .ensures)
+returns-4 c =
+    let divide = c .before .before .before .before in
+    let tested = divide .before .before .before .before .before .before .before in
+    divided (tested .before .before .before .before .before) (tested .before .before .if1 .left) (tested .if2 .left) (divide .divide-unity2 .ensures) (c .is-zero2 .ensures)
 
 pub generator-ok-spec : {M : Type 1} → statement M
 generator-ok-spec =
