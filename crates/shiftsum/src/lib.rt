@@ -1,4 +1,5 @@
-// The C boundary: version, check, code, read, remainder, decode, burst and game on numbers and slices. A `&[u8]` is a pointer and a length in C. The matrix is a local buffer.
+// What the C boundary offers, which the crate shiftsum_c exports: version, check, code, read, remainder, decode, burst and game on numbers and slices. The
+// matrix is a local buffer.
 ghost use Rattle.std.specs.Prelude.{◌≡◌, true, false, [], length};
 ghost use Rattle.spec_book.specs.Layout.{is_long};
 ghost use Rattle.spec_operations.specs.Check.{check_answer};
@@ -18,24 +19,21 @@ use refusals::Done;
 use sizes::{FEW_MATRIX, LONG_FEW_MATRIX, MATRIX};
 
 // Tell the version.
-#[unsafe(no_mangle)]
-pub extern "C" fn shiftsum_version() -> u32
+pub fn shiftsum_version() -> u32
     ensures { result ≡ version 0 8 0 }
 {
     0x000800
 }
 
 // Check a codebook.
-#[unsafe(no_mangle)]
-pub extern "C" fn shiftsum_check(book: &[u8]) -> u32
+pub fn shiftsum_check(book: &[u8]) -> u32
     ensures { result ≡ result_of (check_answer book.now) }
 {
     packing::pack_checked(book::check(book))
 }
 
 // Code a message.
-#[unsafe(no_mangle)]
-pub extern "C" fn shiftsum_code(book: &[u8], message: &[u8], word: &mut [u8]) -> u32
+pub fn shiftsum_code(book: &[u8], message: &[u8], word: &mut [u8]) -> u32
     ensures { Returns (code_refusal book.now message.now (length word.old))
         [] (coded book.now message.now) word.old result word.new }
 {
@@ -44,8 +42,7 @@ pub extern "C" fn shiftsum_code(book: &[u8], message: &[u8], word: &mut [u8]) ->
 }
 
 // Read a code word.
-#[unsafe(no_mangle)]
-pub extern "C" fn shiftsum_read(book: &[u8], word: &[u8], message: &mut [u8]) -> u32
+pub fn shiftsum_read(book: &[u8], word: &[u8], message: &mut [u8]) -> u32
     ensures { Returns (read_refusal book.now word.now (length message.old))
         [] (message_of book.now word.now) message.old result message.new }
 {
@@ -54,8 +51,7 @@ pub extern "C" fn shiftsum_read(book: &[u8], word: &[u8], message: &mut [u8]) ->
 }
 
 // Write the remainder of a word.
-#[unsafe(no_mangle)]
-pub extern "C" fn shiftsum_remainder(book: &[u8], word: &[u8], remainder: &mut [u8]) -> u32
+pub fn shiftsum_remainder(book: &[u8], word: &[u8], remainder: &mut [u8]) -> u32
     ensures { Returns (remainder_refusal book.now word.now (length remainder.old))
         [] (remainder_of book.now word.now) remainder.old result remainder.new }
 {
@@ -131,8 +127,7 @@ fn decode_long(book: &[u8], received: &[u8], answer: &mut [u8]) -> u32
 }
 
 // Decode a received word. The matrix is of the exact size, so refusal 10 tells of the answer alone. No room is larger than the book asks: to clear it costs time.
-#[unsafe(no_mangle)]
-pub extern "C" fn shiftsum_decode(book: &[u8], received: &[u8], answer: &mut [u8]) -> u32
+pub fn shiftsum_decode(book: &[u8], received: &[u8], answer: &mut [u8]) -> u32
     ensures { Returns (decode_refusal book.now received.now (length answer.old) (matrix_size book.now))
         (values (decode_bytes book.now received.now)) (decode_bytes book.now received.now).answer
         answer.old result answer.new }
@@ -219,8 +214,7 @@ fn burst_made(book: &[u8], words: u32, received: &[u8], answers: &mut [u8], list
 
 // Decode a burst, and write its records into the caller's list. This is the one function over a slice of structs, and its proof is a walk by hand: so all else
 // is done by value before, and where the burst is refused there is no record to write.
-#[unsafe(no_mangle)]
-pub extern "C" fn shiftsum_burst(
+pub fn shiftsum_burst(
     book: &[u8],
     words: u32,
     received: &[u8],
@@ -241,13 +235,7 @@ pub extern "C" fn shiftsum_burst(
 }
 
 // Take a game: its messages, all or none.
-#[unsafe(no_mangle)]
-pub extern "C" fn shiftsum_game(
-    book: &[u8],
-    words: u32,
-    received: &[u8],
-    messages: &mut [u8],
-) -> u32
+pub fn shiftsum_game(book: &[u8], words: u32, received: &[u8], messages: &mut [u8]) -> u32
     ensures { Returns (game_refusal book.now words received.now (length messages.old))
         (game_values (game_held book.now words received.now))
         (game_messages book.now words received.now messages.old) messages.old result messages.new }
