@@ -84,4 +84,4 @@ deb: build
 	@VERSION=$(VERSION) package/deb
 
 clean:
-	rm -rf target tests/target
+	rm -rf target tests/target crates/*/out
