@@ -10,7 +10,7 @@ cites = {}
 for line in open(os.path.join(here, "..", "crates.txt"), encoding="utf-8"):
     if ":" in line.split("#")[0]:
         name, deps = line.split("#")[0].split(":", 1)
-        cites[name.strip()] = deps.split()
+        cites[name.split()[0]] = deps.split()
 
 
 def row(name):
