@@ -1,4 +1,6 @@
 // The program: SCOPE 6. See the crates `stream` and `stream_io`.
-fn main() {
-    stream_io::run();
+#![tactic(auto)]
+
+fn main(rt: HostRuntime) {
+    stream_io::run(&rt);
 }

@@ -1,44 +1,141 @@
-// The program's reading and writing, which no contract can speak of. What is assumed here, and nothing else: `read_full` gives the next bytes of standard
-// input, as many as it has room for or all that are left, and `write_all` adds its bytes to standard output, or fails.
-// With that a run prints `output` of its input: `step` (crate stream), `turns_left` and `finish` (crate stream_turns) are the machine of spec_program,
-// `turnsText` (stream_turns, specs/Turns.antt) is the loop below over that machine, and by `turns-output` (stream_turns, proofs/Turns.antt) it makes
-// `output` of any input.
-ghost use Rattle.std.specs.Prelude.{◌≡◌, length};
+// The program's reading and writing, over any reader and any writer. Where their bytes are known, as those in memory are, the contracts say that the writer
+// has `output` (spec_program) of what the reader had. Of standard input and output no contract knows the bytes. What is assumed of them, and nothing else:
+// reads give the bytes in their order, and none only at the end, and writes add theirs in their order.
+// The loop of `pass` is `turns_text` (stream_turns, specs/Turns.antt) over the machine of spec_program.
+#![tactic(auto)]
+
+ghost use Rattle.std.specs.Prelude.{◌≡◌, ℕ, List, ◌<◌, ◌≤◌, true, false, length, take};
+ghost use Rattle.std.specs.Io.KnownBytes.{Appends, Consumes, IsAtEnd};
 ghost use Rattle.stream_state.specs.Stepping.{Rooms};
+ghost use Rattle.stream_turns.specs.Turns.{piece_size};
+ghost use Rattle.stream_io.specs.Answered.{Answers};
 
-use libc::{STDIN_FILENO, STDOUT_FILENO};
+use std::io;
+use std::io::{ErrorKind, Read, Write};
 
-// Takes standard input piece by piece. A short read is the end of input, and a failed write ends the run.
-// The turns never run out before that or the run's own end: after so many full pieces the run has ended (stream_turns, proofs/Turns.antt: turns-over).
-fn pass(
+// How a run ended: all was answered, or a read failed and what was read is answered, or a write failed.
+#[derive(Clone, Copy)]
+pub enum Ending {
+    Answered,
+    ReadFailed,
+    WriteFailed,
+}
+
+// How many bytes came, and whether a read failed.
+#[derive(Clone, Copy)]
+struct Taken {
+    count: usize,
+    failed: bool,
+}
+
+// Fills the piece from the reader. It is left short only where the input has ended or a read failed: a read that gives fewer bytes than there is room for
+// says nothing of the end. A read that a signal interrupts is tried again.
+fn take_piece<R: Read>(reader: &mut R, piece: &mut [u8]) -> Taken
+    ensures within { result.count ≤ length piece.new }
+    ensures prefix { result.count ≡ length (take result.count piece.new) }
+    ensures bytes { Consumes (R.remaining reader.old) (R.remaining reader.new) (take result.count piece.new) }
+    ensures short { result.failed ≡ false → result.count < length piece.new → IsAtEnd (R.remaining reader.new) }
+{
+    let mut count = 0;
+    for _ in 0..u64::MAX {
+        if count >= piece.len() {
+            return Taken {
+                count,
+                failed: false,
+            };
+        }
+        match reader.read(&mut piece[count..]) {
+            Ok(0) => {
+                return Taken {
+                    count,
+                    failed: false,
+                };
+            }
+            Ok(n) => count += n,
+            Err(e) => {
+                if e.kind() != ErrorKind::Interrupted {
+                    return Taken {
+                        count,
+                        failed: true,
+                    };
+                }
+            }
+        }
+    }
+    Taken {
+        count,
+        failed: true,
+    }
+}
+
+// Writes the text, and returns whether all of it was taken: not where a write failed or took nothing. A write that a signal interrupts is tried again.
+fn send<W: Write>(writer: &mut W, text: &[u8]) -> bool
+    ensures sent { result ≡ true → Appends (W.contents writer.old) (W.contents writer.new) text.now }
+    ensures cut { (k : ℕ) × (k ≤ length text.now) × Appends (W.contents writer.old) (W.contents writer.new) (take k text.now) }
+{
+    let mut count = 0;
+    for _ in 0..u64::MAX {
+        if count >= text.len() {
+            return true;
+        }
+        match writer.write(&text[count..]) {
+            Ok(0) => return false,
+            Ok(n) => count += n,
+            Err(e) => {
+                if e.kind() != ErrorKind::Interrupted {
+                    return false;
+                }
+            }
+        }
+    }
+    false
+}
+
+// Answers what the reader gives, piece by piece. A piece that is left short is the end of input, and a failed write ends the run.
+// The turns never run out before that or the run's own end: after so many full pieces the run has ended.
+fn pass<R: Read, W: Write>(
+    reader: &mut R,
+    writer: &mut W,
     t: &mut [u8],
     terms: &mut [u16],
     answer: &mut [u8],
     entries: &mut [u16],
     input: &mut [u8],
     output: &mut [u8],
-)
+) -> Ending
     requires { (length t.old ≡ 8192) × (length terms.old ≡ 8384) × Rooms input.old answer.old entries.old output.old }
+    ensures { piece_size ≤ length input.old → Answers result (R.remaining reader.old) (R.remaining reader.new) (W.contents writer.old) (W.contents writer.new) }
 {
     let mut s = stream_state::start();
     let mut sent = true;
+    let mut failed = false;
     let mut left = stream_turns::rooms::turns();
     while 0 < left {
-        let got = io::read_full(STDIN_FILENO, input);
-        let stepped = stream::step(s, &input[..got], t, terms, answer, entries, output);
+        let taken = take_piece(reader, input);
+        let stepped = stream::step(s, &input[..taken.count], t, terms, answer, entries, output);
         let end = stepped.end;
-        sent = io::write_all(STDOUT_FILENO, &output[..end]);
+        sent = send(writer, &output[..end]);
         s = stepped.state;
-        left = stream_turns::turns_left(left, sent, got == input.len(), s);
+        failed = taken.failed;
+        left = stream_turns::turns_left(left, sent, taken.count == input.len(), s);
     }
-    if sent {
-        let end = stream_turns::finish(s, output);
-        io::write_all(STDOUT_FILENO, &output[..end]);
+    if !sent {
+        return Ending::WriteFailed;
     }
+    let end = stream_turns::finish(s, output);
+    if !send(writer, &output[..end]) {
+        return Ending::WriteFailed;
+    }
+    if failed {
+        return Ending::ReadFailed;
+    }
+    Ending::Answered
 }
 
-// Answers standard input: SCOPE 6.
-pub fn run() {
+// Answers what the reader gives: SCOPE 6.
+pub fn answer<R: Read, W: Write>(reader: &mut R, writer: &mut W) -> Ending
+    ensures { Answers result (R.remaining reader.old) (R.remaining reader.new) (W.contents writer.old) (W.contents writer.new) }
+{
     let mut t = word_table::table_room();
     let mut terms = matrix_terms::long_room();
     let mut answer = stream_turns::rooms::answer();
@@ -46,11 +143,18 @@ pub fn run() {
     let mut input = stream_turns::rooms::piece();
     let mut output = stream_turns::rooms::text();
     pass(
+        reader,
+        writer,
         &mut t,
         &mut terms,
         &mut answer,
         &mut entries,
         &mut input,
         &mut output,
-    );
+    )
+}
+
+// Answers standard input on standard output. How the run ended is not told.
+pub fn run(rt: &(impl Input + Print)) {
+    answer(&mut rt.reader(), &mut io::writer(rt));
 }
