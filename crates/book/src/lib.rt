@@ -13,14 +13,14 @@ mod conditions;
 mod generator;
 
 // Accepted, with the count of dual words, or refused, with the number of SCOPE 7.
-#[derive(Drop)]
+#[derive(Clone, Copy)]
 pub enum Checked {
     Accepted(u8),
     Refused(u8),
 }
 
 // What coding and decoding read off an accepted book.
-#[derive(Drop)]
+#[derive(Clone, Copy)]
 pub struct Params {
     pub p: u8,
     pub n: usize,
@@ -31,7 +31,7 @@ pub struct Params {
 }
 
 // An accepted book, by what was read off it, or the number of its refusal.
-#[derive(Drop)]
+#[derive(Clone, Copy)]
 pub enum Opened {
     Open(Params),
     Refused(u8),

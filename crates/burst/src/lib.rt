@@ -15,7 +15,7 @@ mod words; // words.rt: the words of a burst, decoded one after another
 
 // What is told of a word: the letter of its kind, its rounds, and how many places changed.
 #[repr(C)]
-#[derive(Drop)]
+#[derive(Clone, Copy)]
 pub struct Record {
     pub kind: u8,
     pub rounds: u8,
@@ -23,7 +23,7 @@ pub struct Record {
 }
 
 // The answer by value: 0 or the number of the refusal, how many records were made, and the records, blank from there on.
-#[derive(Drop)]
+#[derive(Clone, Copy)]
 pub struct Burst {
     pub number: u8,
     pub count: usize,

@@ -11,7 +11,7 @@ ghost use Rattle.refusals.specs.Said.{said};
 use refusals::Done;
 
 // What the two calls answer.
-#[derive(Drop)]
+#[derive(Clone, Copy)]
 pub struct Both {
     pub first: Done,
     pub second: Done,

@@ -15,7 +15,7 @@ use refusals::Done;
 use sizes::LONG_FEW_TABLE;
 
 // Kind, rounds and changed, or the number of the refusal.
-#[derive(Drop)]
+#[derive(Clone, Copy)]
 pub enum Decoded {
     Answered(Kind, u8, u8),
     Refused(u8),

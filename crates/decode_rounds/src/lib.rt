@@ -14,7 +14,7 @@ use book::Params;
 use sizes::Word;
 
 // The kind of answer.
-#[derive(Drop)]
+#[derive(Clone, Copy)]
 pub enum Kind {
     Clean,
     Mended,
@@ -23,7 +23,7 @@ pub enum Kind {
 }
 
 // What comes of a round.
-#[derive(Drop)]
+#[derive(Clone, Copy)]
 pub enum Step {
     Empty,
     Reached,
@@ -31,14 +31,14 @@ pub enum Step {
 }
 
 // The word after a round, and what came of it.
-#[derive(Drop)]
+#[derive(Clone, Copy)]
 pub struct Rounded {
     pub step: Step,
     pub word: Word,
 }
 
 // How the rounds ended, and the answer word.
-#[derive(Drop)]
+#[derive(Clone, Copy)]
 pub struct End {
     pub kind: Kind,
     pub rounds: u8,

@@ -8,7 +8,7 @@ ghost use Rattle.spec_field.specs.Operations.{field_refusal, inverse_refusal, su
 const POLYNOMIALS: u64 = 0x5b_25_13_0b_07_03_01;
 
 // A symbol, or the number of the refusal.
-#[derive(Drop)]
+#[derive(Clone, Copy)]
 pub enum Symbol {
     Value(u8),
     Refused(u8),

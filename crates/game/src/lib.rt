@@ -8,7 +8,7 @@ mod taking; // taking.rt: which words of a burst are held
 mod words; // words.rt: a game once the book is open
 
 // Every word is Clean or Mended; or how many are not; or the number of the refusal.
-#[derive(Drop)]
+#[derive(Clone, Copy)]
 pub enum Game {
     Whole,
     Held(u8),

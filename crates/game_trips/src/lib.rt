@@ -15,7 +15,7 @@ use refusals::Done;
 pub mod sending; // sending.rt: messages coded into a burst
 
 // What sending and the game answer.
-#[derive(Drop)]
+#[derive(Clone, Copy)]
 pub struct Both {
     pub first: Done,
     pub second: Game,
@@ -44,7 +44,7 @@ pub fn send_then_game(
 }
 
 // What a burst and the game of the same words answer.
-#[derive(Drop)]
+#[derive(Clone, Copy)]
 pub struct Beside {
     pub first: Burst,
     pub second: Game,

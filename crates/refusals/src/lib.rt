@@ -3,7 +3,7 @@ ghost use Rattle.std.specs.Prelude.{◌≡◌, ◌*◌, ◌≤◌, eqb, length};
 ghost use Rattle.spec_book.specs.Conditions.{unless, words_ok, message_fits, input_ok, input_refusal};
 
 // The buffer is written, or the call is refused with the number of SCOPE 7.
-#[derive(Drop)]
+#[derive(Clone, Copy)]
 pub enum Done {
     Made,
     Refused(u8),

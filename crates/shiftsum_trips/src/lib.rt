@@ -15,7 +15,7 @@ ghost use Rattle.spec_operations.specs.Short.{GivenWrittenOut};
 ghost use Rattle.spec_operations.specs.OverC.{GivenBackOverC, RelatedOverC, SortedOverC, SameWordOverC, BackWholeOverC};
 
 // What the two calls return.
-#[derive(Drop)]
+#[derive(Clone, Copy)]
 pub struct Two {
     pub first: u32,
     pub second: u32,

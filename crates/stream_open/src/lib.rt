@@ -11,7 +11,7 @@ use sizes::BOOK;
 use stream_state::{FIELD, Phase, State};
 
 // What came of the opening: some of it is still coming, or the book is open, or it is refused, with its number.
-#[derive(Drop)]
+#[derive(Clone, Copy)]
 pub enum Judged {
     Coming,
     Open(Params),
@@ -19,7 +19,7 @@ pub enum Judged {
 }
 
 // The state after the bytes of a piece before `at`, and where their text ends.
-#[derive(Drop)]
+#[derive(Clone, Copy)]
 pub struct Taken {
     pub state: State,
     pub at: usize,

@@ -12,7 +12,7 @@ use sizes::Word;
 use stream_state::{MOST, Phase, State, Stepped};
 
 // How many words are answered, the bytes of a begun word, as many as are held, and where the text ends.
-#[derive(Drop)]
+#[derive(Clone, Copy)]
 pub struct Answers {
     pub count: usize,
     pub begun: Word,

@@ -14,7 +14,7 @@ pub const FIELD: usize = 2;
 pub const MOST: usize = 1000000;
 
 // The codebook's length or the codebook is still coming; or words come; or the run has ended.
-#[derive(Drop)]
+#[derive(Clone, Copy)]
 pub enum Phase {
     Opening,
     Answering,
@@ -22,7 +22,7 @@ pub enum Phase {
 }
 
 // Where a run stands between two pieces. Of each array as many bytes count as the number after it says. The parameters are those of an open book.
-#[derive(Drop)]
+#[derive(Clone, Copy)]
 pub struct State {
     pub field: [u8; FIELD],
     pub got: usize,
@@ -36,7 +36,7 @@ pub struct State {
 }
 
 // The next state, and where the text ends.
-#[derive(Drop)]
+#[derive(Clone, Copy)]
 pub struct Stepped {
     pub state: State,
     pub end: usize,

@@ -12,7 +12,7 @@ use burst::Burst;
 use decode::Decoded;
 
 // What the two calls answer.
-#[derive(Drop)]
+#[derive(Clone, Copy)]
 pub struct Two {
     pub first: Decoded,
     pub second: Decoded,
@@ -48,7 +48,7 @@ pub fn decode_twice(
 }
 
 // What the two bursts answer.
-#[derive(Drop)]
+#[derive(Clone, Copy)]
 pub struct TwoBursts {
     pub first: Burst,
     pub second: Burst,

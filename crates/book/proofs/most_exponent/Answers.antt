@@ -1,0 +1,11 @@
+-- `book::most_exponent` meets its contract.
+-- Assumes nothing.
+use mathlib.Core.Path.{sym, ◌∙◌}
+use borrow.Author.Rules.{rules}
+use Rattle.book.proofs.most_exponent.Goals as goal
+
+pub returns-then-is_long : goal.returns-then-is_long
+returns-then-is_long c = rw (sym c.is_long.ensures ∙ c.if-is_long.true)
+
+pub returns-else-is_long : goal.returns-else-is_long
+returns-else-is_long c = rw (sym c.is_long.ensures ∙ c.if-is_long.false)

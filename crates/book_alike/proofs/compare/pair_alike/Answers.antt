@@ -1,0 +1,54 @@
+-- `book_alike::compare::pair_alike` meets its contract: signatures that differ tell it, else the words are compared.
+-- Assumes nothing.
+use mathlib.Core.Path.{ap, ap₂, ◌∙◌}
+use Prim.Native.Nat.{ℕ}
+use native.Mathlib.Omega.{arith}
+use borrow.Author.Tests.{ne_eqb}
+use Rattle.spec_field.specs.Symbols.{gf}
+use Rattle.spec_word.specs.Alike.{alike}
+use Rattle.book_alike.proofs.Words.{body_word, body_start, body_room, body_symbol}
+use Rattle.book_alike.proofs.Differing.{unlike_told}
+use borrow.Author.Rules.{rules}
+use Rattle.book_alike.proofs.compare.pair_alike.Goals as goal
+
+pub bounds-s-m : goal.bounds-s-m
+bounds-s-m c = let s = c.requires in omega (arith, s.0.most, s.1.long, s.3)
+
+pub bounds-s-l : goal.bounds-s-l
+bounds-s-l c = let s = c.requires in omega (arith, s.0.most, s.1.long)
+
+pub returns-then-s-m : goal.returns-then-s-m
+returns-then-s-m c =
+    let start = c in
+    let s = start.requires in
+    unlike_told s.0 s.1 start.args.l start.args.m (omega arith) s.3 (ne_eqb _ _ c.if-s-m.true)
+
+pub dual_at-requires : goal.dual_at-requires
+dual_at-requires c = let s = c.requires in omega (arith, s.0.most, s.3)
+
+pub overflow_add-dual_at : goal.overflow_add-dual_at
+overflow_add-dual_at c =
+    let start = c in
+    let earlier = start.requires.3 in
+    search (rules, body_start _ start.args.m c.dual_at.ensures start.requires.0.tested.room (omega arith))
+
+pub alike-requires : goal.alike-requires
+alike-requires c =
+    let start = c in
+    let h = start.requires.0.tested in
+    let e = c.dual_at.ensures in
+    let m = start.args.m in
+    let earlier = start.requires.3 in
+    record {
+      sizes = h.sizes;
+      room = body_room _ m e start.args.n h.room h.spanned (omega arith);
+      symbol = body_symbol _ m e h (omega arith);
+      multiples = start.requires.2.multiples;
+      first = ap (λ (f : ℕ → ℕ). f 0) start.requires.2.word ∙ start.requires.0.first start.args.l (omega arith);
+    }
+
+pub returns : goal.returns
+returns c =
+    let start = c in
+    c.alike.ensures
+    ∙ ap₂ (alike (gf start.args.p) start.args.n) (body_word _ start.args.m c.dual_at.ensures start.args.n) start.requires.2.word

@@ -1,0 +1,28 @@
+-- `book_alike::distinct_ok` meets its contract: too few to be alike, by the signatures, or by comparing.
+-- Assumes nothing.
+use mathlib.Core.Path.{sym, ◌∙◌}
+use native.Mathlib.Omega.{arith}
+use Rattle.book_alike.proofs.Differing.{all_once, no_pair}
+use borrow.Author.Rules.{rules}
+use Rattle.book_alike.proofs.distinct_ok.Goals as goal
+
+pub returns-then-duals-lt2 : goal.returns-then-duals-lt2
+returns-then-duals-lt2 c = no_pair _ _ _ c.if-duals-lt2.true
+
+pub signatures-s-requires : goal.signatures-s-requires
+signatures-s-requires c =
+    let s = c.requires in
+    let h = s.tested in
+    record { n_low = h.sizes.n_low; n_high = h.sizes.n_high; most = s.most; room = h.room; spanned = h.spanned }
+
+pub returns-then-all_differ : goal.returns-then-all_differ
+returns-then-all_differ c =
+    let signed = c in
+    all_once signed.requires signed.signatures-s.ensures (sym c.all_differ.ensures ∙ c.if-all_differ.true)
+
+pub pairs_ok-requires : goal.pairs_ok-requires
+pairs_ok-requires c =
+    let room = c in
+    let signed = room in
+    let start = signed in
+    (start.requires, signed.signatures-s.ensures, omega (arith, start.requires.tested.sizes.together, room.table_room-t.ensures))

@@ -1,0 +1,28 @@
+-- `book_alike::signature::all_differ` meets its contract. The invariant: `found` adds up how often each number below place l is found.
+-- Assumes nothing.
+use mathlib.Core.Path.{◌≡◌, sym, ap}
+use Prim.Native.Nat.{ℕ, ◌+◌, ◌*◌, ◌-◌, ◌≤◌}
+use native.Mathlib.Omega.{arith}
+use lib.Dec.{eqb}
+use Rattle.spec_range.specs.Fold.{total}
+use Rattle.spec_range.proofs.Loop.{fold_none, fold_step}
+use Rattle.word_array.specs.Stored.{place}
+use Rattle.book_alike.specs.Signed.{times_of}
+use borrow.Author.Rules.{rules}
+use Rattle.book_alike.proofs.signature.all_differ.Goals as goal
+
+pub loop-l-init : goal.loop-l-init
+loop-l-init c = (search rules, sym (fold_none ◌+◌ 0 _), search rules)
+
+pub overflow_add-found : goal.overflow_add-found
+overflow_add-found c = omega (arith, c.times-found.ensures.1, c.loop-l.invariant.2)
+
+pub loop-l-preserved : goal.loop-l-preserved
+loop-l-preserved c =
+    let now = c.loop-l in
+    (search rules, fold_step ◌+◌ 0 now.l _ now.invariant.1 c.times-found.ensures.0, omega (arith, c.times-found.ensures.1, now.invariant.2))
+
+pub returns : goal.returns
+returns c =
+    let e : c.loop-l.l ≡ c.args.count = omega (arith, c.loop-l.invariant.0) in
+    ap (λ (x : ℕ). eqb x c.args.count) (rw e at c.loop-l.invariant.1)

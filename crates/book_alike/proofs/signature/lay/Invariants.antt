@@ -1,0 +1,18 @@
+-- `book_alike::signature::lay` meets its contract. The invariant: the rows below i are laid.
+-- Assumes nothing.
+use mathlib.Core.Path.{◌≡◌}
+use Prim.Native.Nat.{◌+◌, ◌-◌, ◌*◌, ◌≤◌}
+use native.Mathlib.Omega.{arith}
+use Rattle.sizes.proofs.Lengths.{blocks_fit}
+use lib.ListN.{length}
+use Rattle.book_alike.specs.Signed.{Rows}
+use Rattle.book_alike.proofs.Words.{body_start, body_room}
+use Rattle.book_alike.proofs.Laying.{row_within, rows_none, rows_more}
+use borrow.Author.Rules.{rules}
+use Rattle.book_alike.proofs.signature.lay.Given as goal
+
+abbrev pub invariant-loop-i : goal.invariant-loop-i
+invariant-loop-i s = (s.i ≤ s.k) × Rows s.stride s.book s.n s.l s.i s.initial.rows s.rows
+
+abbrev pub decreases-loop-i : goal.decreases-loop-i
+decreases-loop-i s = s.k - s.i

@@ -1,0 +1,37 @@
+-- `book_duals::packed::double_block` meets its contract. The invariant: j places are written.
+-- Assumes nothing.
+use mathlib.Core.Path.{◌≡◌, refl}
+use Prim.Native.Nat.{◌-◌, ◌≤◌}
+use native.Mathlib.Omega.{arith}
+use Rattle.word_array.specs.Stored.{place}
+use Rattle.word_table.specs.Window.{Window}
+use Rattle.word_table.proofs.Window.{window_none, window_more}
+use Rattle.book_duals.specs.Lanes.{double_all}
+use Rattle.book_duals.proofs.Lanes.{rest_fits, top_fits, double_value}
+use borrow.Author.Rules.{rules}
+use Rattle.book_duals.proofs.packed.double_block.Goals as goal
+
+pub loop-j-init : goal.loop-j-init
+loop-j-init c = (search rules, window_none _ _ _)
+
+pub overflow_add-t : goal.overflow_add-t
+overflow_add-t c = let s = c in search (rules, rest_fits s.args.p s.other_digits-others.ensures)
+
+pub overflow_mul-t : goal.overflow_mul-t
+overflow_mul-t c = let s = c in search (rules, top_fits s.args.p s.low_digits-ones.ensures)
+
+pub loop-j-preserved : goal.loop-j-preserved
+loop-j-preserved c =
+    let s = c in
+    let l = c.loop-j in (
+      search rules,
+      window_more _ (omega arith)
+          (double_value s.args.p refl s.low_digits-ones.ensures s.other_digits-others.ensures)
+          l.invariant.1,
+    )
+
+pub shape_of-t : goal.shape_of-t
+shape_of-t c = c.loop-j.invariant.1.long
+
+pub returns : goal.returns
+returns c = let e : c.loop-j.j ≡ 64 = omega arith in rw e at c.loop-j.invariant.1

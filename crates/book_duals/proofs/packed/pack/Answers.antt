@@ -1,0 +1,24 @@
+-- `book_duals::packed::pack` meets its contract. The invariant: the places below j have the sum.
+-- Assumes nothing.
+use mathlib.Core.Path.{◌≡◌}
+use Prim.Native.Nat.{◌+◌, ◌-◌, ◌*◌, ◌%◌, ◌^◌, ◌≤◌}
+use native.Mathlib.Nat.{le_refl}
+use native.Mathlib.Omega.{arith}
+use lib.Bits.{bit_xor}
+use Rattle.spec_range.proofs.Loop.{Over, over_none, over_more, over_table}
+use Rattle.word_array.specs.Stored.{place}
+use borrow.Author.Rules.{rules}
+use Rattle.book_duals.proofs.packed.pack.Goals as goal
+
+pub loop-j-init : goal.loop-j-init
+loop-j-init c = (search rules, over_none _ _)
+
+pub loop-j-preserved : goal.loop-j-preserved
+loop-j-preserved c =
+    let s = c.loop-j in
+    (search rules, over_more _ (omega arith) (rw (s.invariant.1.rest _ (le_refl s.j))) s.invariant.1)
+
+pub returns : goal.returns
+returns c =
+    let e : c.loop-j.j ≡ 64 = omega arith in
+    over_table _ _ _ _ (search rules) (rw e at c.loop-j.invariant.1)

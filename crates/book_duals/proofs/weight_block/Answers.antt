@@ -1,0 +1,21 @@
+-- `book_duals::weight_block` meets its contract. The invariant: `count` is the number of nonzero bytes below place j.
+-- Assumes nothing.
+use Prim.Native.Nat.{◌+◌, ◌-◌}
+use native.Mathlib.Omega.{arith}
+use Rattle.spec_word.specs.Word.{nonzero}
+use Rattle.word_array.specs.Stored.{place}
+use Rattle.word_array.proofs.Counted.{Counted, counted_none, counted_more, counted-byte, counted_end}
+use borrow.Author.Rules.{rules}
+use Rattle.book_duals.proofs.weight_block.Goals as goal
+
+pub loop-j-init : goal.loop-j-init
+loop-j-init c = counted_none _ _
+
+pub overflow_add-count-in-loop-j : goal.overflow_add-count-in-loop-j
+overflow_add-count-in-loop-j c = search (rules, counted-byte c.loop-j.invariant)
+
+pub loop-j-preserved : goal.loop-j-preserved
+loop-j-preserved c = counted_more c.loop-j.invariant (omega arith)
+
+pub returns : goal.returns
+returns c = counted_end c.loop-j.invariant (omega arith)

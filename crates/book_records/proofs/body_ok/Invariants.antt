@@ -1,0 +1,13 @@
+-- `book_records::body_ok` meets its contract. The invariant: `ok` says whether the places of the first b blocks are below their bounds.
+-- Assumes nothing.
+use Prim.Native.Nat.{◌-◌}
+use native.Mathlib.Omega.{arith}
+use Rattle.book_records.proofs.Bounded.{Bounded, bounded_none, bounded_more, bounded_end, bounds_room}
+use borrow.Author.Rules.{rules}
+use Rattle.book_records.proofs.body_ok.Given as goal
+
+abbrev pub invariant-loop-b : goal.invariant-loop-b
+invariant-loop-b l = Bounded l.book l.bounds l.start l.blocks l.b l.ok
+
+abbrev pub decreases-loop-b : goal.decreases-loop-b
+decreases-loop-b l = l.blocks - l.b

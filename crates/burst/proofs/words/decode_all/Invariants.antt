@@ -1,0 +1,17 @@
+-- `burst::words::decode_all` meets its contract. The invariant is `SoFar`: what stands after m words.
+-- Assumes nothing.
+use mathlib.Core.Path.{◌∙◌}
+use Prim.Native.Nat.{◌-◌}
+use native.Mathlib.Omega.{arith}
+use Rattle.book.proofs.Described.{params_sizes}
+use Rattle.burst.proofs.Working.{part_end, part_within}
+use Rattle.burst.proofs.Loop.{SoFar, none_yet, one_more, all_of_them}
+use borrow.Author.Rules.{rules}
+use Rattle.burst.proofs.words.decode_all.Given as goal
+
+abbrev pub invariant-loop-m : goal.invariant-loop-m
+invariant-loop-m l =
+    SoFar l.book l.c l.words l.received l.initial.answers l.initial.terms l.m l.terms l.answers l.entries l.records
+
+abbrev pub decreases-loop-m : goal.decreases-loop-m
+decreases-loop-m l = l.words - l.m

@@ -1,0 +1,18 @@
+-- `burst::words::unmix` meets its contract. The invariant: the places below j are those of word m.
+-- Assumes nothing.
+use mathlib.Core.Path.{refl}
+use Prim.Native.Nat.{◌+◌, ◌*◌, ◌-◌, ◌≤◌}
+use native.Mathlib.Nat.{le_refl}
+use native.Mathlib.Omega.{arith}
+use borrow.Author.Rules.{rules}
+use Rattle.spec_range.proofs.Loop.{Held, held_none, held_more}
+use Rattle.word_array.specs.Stored.{place}
+use Rattle.word_array.proofs.Filled.{held_end}
+use Rattle.burst.proofs.Working.{within, burst_small}
+use Rattle.burst.proofs.words.unmix.Given as goal
+
+abbrev pub invariant-loop-j : goal.invariant-loop-j
+invariant-loop-j l = (l.j ≤ l.n) × Held 255 l.j (λ j. place l.received (j * l.words + l.m)) l.w
+
+abbrev pub decreases-loop-j : goal.decreases-loop-j
+decreases-loop-j l = l.n - l.j

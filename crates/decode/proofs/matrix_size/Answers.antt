@@ -1,0 +1,17 @@
+-- `decode::matrix_size` meets its contract.
+-- Assumes nothing.
+use mathlib.Core.Path.{ap, ◌∙◌}
+use Prim.Native.Nat.{ℕ, ◌*◌, ◌^◌, ◌≤◌}
+use native.Mathlib.Omega.{arith}
+use borrow.Author.Rules.{rules, scaled_Fits}
+use lib.Pow.{pow_mono}
+use Rattle.decode.proofs.matrix_size.Goals as goal
+
+pub overflow_mul-result : goal.overflow_mul-result
+overflow_mul-result c =
+    let s = c in
+    let b : 2 ^ s.args.p ≤ 64 = pow_mono s.requires.0 in
+    scaled_Fits c.wide.result 65 s.args.n (omega (arith, c.order.ensures, c.wide.ensures)) (omega (arith, s.requires.1))
+
+pub returns : goal.returns
+returns c = ap (λ (q : ℕ). q * c.args.n) (c.wide.ensures ∙ c.order.ensures)

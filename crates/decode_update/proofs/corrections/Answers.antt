@@ -1,0 +1,49 @@
+-- `decode_update::corrections` meets its contract. The invariant: the places below j hold what the counts admit of each column's symbol.
+-- Assumes nothing.
+use mathlib.Core.Path.{sym}
+use Prim.Native.Nat.{◌-◌, ◌≤◌}
+use native.Mathlib.Omega.{arith}
+use lib.Pow.{pow_pos}
+use Rattle.spec_range.proofs.Loop.{Held, held_none, held_more}
+use Rattle.spec_field.proofs.Gf.{gf_laws}
+use Rattle.word_array.specs.Stored.{place}
+use Rattle.decode_update.specs.Rule.{at_most, at_least, admitted}
+use Rattle.decode_update.proofs.Climbing.{row_within}
+use Rattle.decode_update.proofs.Rule.{corrections_held}
+use borrow.Author.Rules.{rules}
+use Rattle.decode_update.proofs.corrections.Goals as goal
+
+pub low_limit-low-requires : goal.low_limit-low-requires
+low_limit-low-requires c =
+    let s = c in
+    (search rules, omega (arith, row_within s.args.n (pow_pos s.args.p)))
+
+pub slice_bounds-high_limit-end : goal.slice_bounds-high_limit-end
+slice_bounds-high_limit-end c = sym c.peaks.ensures.1
+
+pub high_limit-high-requires : goal.high_limit-high-requires
+high_limit-high-requires c = (search rules, omega (arith, c.peaks.ensures.1))
+
+pub loop-j-init : goal.loop-j-init
+loop-j-init c = (search rules, held_none 255 _)
+
+pub bounds-m-j : goal.bounds-m-j
+bounds-m-j c =
+    let s = c in
+    omega (arith, row_within s.args.n (pow_pos s.args.p))
+
+pub loop-j-preserved : goal.loop-j-preserved
+unfolding admitted
+loop-j-preserved c =
+    let t = c in
+    let low = t.low_limit-low.ensures in
+    let high = t.high_limit-high.ensures in
+    let e = c.chosen.ensures in
+    (search rules, held_more _ (omega arith) (rw (low _ e.1, high _ e.2) e.0) t.loop-j.invariant.1)
+
+pub returns : goal.returns
+returns c =
+    let t = c in
+    let s = t in
+    λ B e d.
+    corrections_held _ (gf_laws _ s.requires.0.p_low s.requires.0.p_high) B _ _ _ e d t.peaks.ensures.0 (omega arith) c.loop-j.invariant.1

@@ -1,0 +1,46 @@
+-- `decode_update::peaks` meets its contract. The invariant: rows 1 to i - 1 are taken.
+-- Assumes nothing.
+use mathlib.Core.Path.{◌≡◌}
+use Prim.Native.Nat.{◌+◌, ◌-◌, ◌*◌, ◌^◌, ◌≤◌}
+use native.Mathlib.Omega.{arith}
+use lib.Pow.{pow_pos}
+use lib.ListN.{length}
+use Rattle.decode_update.proofs.Climbing.{Climbing, climbing_none, climbing_more, row_within, part_length}
+use borrow.Author.Rules.{rules}
+use Rattle.decode_update.proofs.peaks.Goals as goal
+
+pub overflow_sub-last : goal.overflow_sub-last
+overflow_sub-last c = omega (arith, pow_pos c.args.p)
+
+pub loop-i-init : goal.loop-i-init
+loop-i-init c =
+    let s = c in
+    rw (s.requires.2, s.requires.3) (climbing_none (omega arith) (pow_pos s.args.p))
+
+pub overflow_mul-start : goal.overflow_mul-start
+overflow_mul-start c = omega (arith, (let fact : c.loop-i.i * c.args.n + c.args.n ≤ length c.args.m.now = rw c.requires.1 (row_within _ (omega arith)) in fact))
+
+pub overflow_add-end : goal.overflow_add-end
+overflow_add-end c = omega (arith, (let fact : c.loop-i.i * c.args.n + c.args.n ≤ length c.args.m.now = rw c.requires.1 (row_within _ (omega arith)) in fact))
+
+pub offset_bounds-m-start : goal.offset_bounds-m-start
+offset_bounds-m-start c = omega (arith, (let fact : c.loop-i.i * c.args.n + c.args.n ≤ length c.args.m.now = rw c.requires.1 (row_within _ (omega arith)) in fact))
+
+-- NO GOAL slice-bounds-take-row-end
+-- part-take-row-end : tie.Need-slice-bounds-take-row-end invariant-loop decreases-loop
+-- part-take-row-end c = row_ends c
+
+pub take_row-requires : goal.take_row-requires
+take_row-requires c =
+    let t = c in
+    (rw (part_length _ _ _ ((let fact : t.loop-i.i * t.args.n + t.args.n ≤ length t.args.m.now = rw t.requires.1 (row_within _ (omega arith)) in fact))) (omega arith), t.loop-i.invariant.counts_long, t.loop-i.invariant.symbols_long)
+
+pub loop-i-preserved : goal.loop-i-preserved
+loop-i-preserved c =
+    let t = c in
+    climbing_more t.requires.1 (omega arith) t.loop-i.invariant c.take_row.ensures
+
+pub returns : goal.returns
+returns c =
+    let e : c.loop-i.i ≡ 2 ^ c.args.p = omega arith in
+    (rw e at c.loop-i.invariant.peaked, c.loop-i.invariant.counts_long)

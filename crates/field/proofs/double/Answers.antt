@@ -1,0 +1,12 @@
+-- `field::double` meets its contract. Assumes nothing.
+use mathlib.Core.Path.{sym, subst}
+use Prim.Native.Nat.{ℕ, ◌^◌, ◌<◌}
+use borrow.Author.Rules.{rules}
+use Rattle.spec_field.proofs.Gf.{times_x-below}
+use Rattle.field.proofs.double.Goals as goal
+
+pub returns : goal.returns
+returns c = let s = c in
+    let p = s.args.p in
+    let made = c.times_x.ensures in
+    (made, subst (λ (x : ℕ). x < 2 ^ p) (sym made) (times_x-below p s.args.a s.requires.1 s.requires.2))

@@ -1,0 +1,17 @@
+-- `field::mul` meets its contract. The loop's invariant: what is summed, with the steps to come, makes the product. Assumes nothing.
+use mathlib.Core.Path.{◌≡◌, ap, ap₂, ◌∙◌, sym, subst}
+use Prim.Native.Nat.{ℕ, suc, ◌+◌, ◌-◌, ◌/◌, ◌^◌, ◌<◌, ◌≤◌}
+use native.Mathlib.Omega.{arith}
+use borrow.Author.Rules.{rules}
+use lib.Bits.{bit_xor, xor_zero_r}
+use Rattle.spec_field.specs.Symbols.{shift_add, product}
+use Rattle.spec_field.proofs.ShiftAdd.{shift_add_step, product_in_steps}
+use Rattle.spec_field.proofs.Gf.{times_x-below, product-below}
+use Rattle.field.proofs.mul.Given as goal
+
+abbrev pub invariant-loop : goal.invariant-loop
+invariant-loop l =
+    (l.counter ≤ 6) × (l.shifted < 2 ^ l.p) × (bit_xor l.total (shift_add l.p (6 - l.counter) l.shifted l.rest) ≡ product l.p l.a l.b)
+
+abbrev pub decreases-loop : goal.decreases-loop
+decreases-loop l = 6 - l.counter

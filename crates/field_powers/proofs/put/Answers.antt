@@ -1,0 +1,91 @@
+-- `field_powers::put` meets its contract. The invariant: the exponents below e are put, and `symbol` is the next power.
+-- Assumes nothing.
+use Prim.Native.Nat.{◌+◌, ◌-◌, ◌^◌, ◌<◌, ◌≤◌}
+use mathlib.Core.Path.{◌≡◌, ◌∙◌}
+use native.Mathlib.Omega.{arith}
+use lib.ListN.{length, set, length-set}
+use lib.Pow.{pow_pos}
+use Rattle.field_powers.proofs.Laws.{power_below}
+use Rattle.field_powers.proofs.Logging.{Logging, logging_none, logging_more, logging_end, round_le, power_fits}
+use borrow.Author.Rules.{rules}
+use Rattle.field_powers.specs.Powers.{powers_end}
+use Rattle.field_powers.proofs.put.Goals as goal
+
+pub overflow_sub-round : goal.overflow_sub-round
+overflow_sub-round c = omega (arith, pow_pos c.args.p, c.wide-round.ensures, c.order.ensures)
+
+pub loop-e-init : goal.loop-e-init
+loop-e-init c = let a = c in logging_none _ _ a.args.room.now a.requires.2
+
+pub overflow_cast-room : goal.overflow_cast-room
+overflow_cast-room c = omega (
+  arith,
+  (let fact : c.loop-e.symbol < 64 = let pre = c.requires in
+      let s = c.loop-e in
+      omega (arith, s.invariant.symbol_is, power_fits pre.0 pre.1 s.e) in fact),
+)
+
+pub bounds-room-e : goal.bounds-room-e
+bounds-room-e c = omega (arith, (let fact : c.wide-round.result - 1 ≤ 63 = let t = c in round_le _ t.requires.1 ((let fact : t.wide-round.result - 1 + 1 ≡ 2 ^ t.args.p = omega (arith, pow_pos t.args.p, t.wide-round.ensures, t.order.ensures) in fact)) in fact), (let fact : powers_end ≤ length c.loop-e.room = let a = c in omega (arith, c.loop-e.invariant.long, a.requires.2, length-set a.args.room.now 0 0) in fact), c.loop-e-test.true)
+
+pub overflow_cast-room-in-loop-e : goal.overflow_cast-room-in-loop-e
+overflow_cast-room-in-loop-e c = omega (
+  arith,
+  (let fact : c.loop-e.symbol < 64 = let pre = c.requires in
+      let s = c.loop-e in
+      omega (arith, s.invariant.symbol_is, power_fits pre.0 pre.1 s.e) in fact),
+)
+
+pub bounds-room-round : goal.bounds-room-round
+bounds-room-round c = let s = c.loop-e in omega (arith, (let fact : c.wide-round.result - 1 ≤ 63 = let t = c in round_le _ t.requires.1 ((let fact : t.wide-round.result - 1 + 1 ≡ 2 ^ t.args.p = omega (arith, pow_pos t.args.p, t.wide-round.ensures, t.order.ensures) in fact)) in fact), (let fact : powers_end ≤ length c.loop-e.room = let a = c in omega (arith, c.loop-e.invariant.long, a.requires.2, length-set a.args.room.now 0 0) in fact), c.loop-e-test.true, length-set s.room (64 + s.e) s.symbol)
+
+pub overflow_cast-room-in-loop-e-3 : goal.overflow_cast-room-in-loop-e-3
+overflow_cast-room-in-loop-e-3 c = omega (
+  arith,
+  (let fact : c.loop-e.symbol < 64 = let pre = c.requires in
+      let s = c.loop-e in
+      omega (arith, s.invariant.symbol_is, power_fits pre.0 pre.1 s.e) in fact),
+)
+
+pub offset_bounds-room-symbol : goal.offset_bounds-room-symbol
+offset_bounds-room-symbol c = omega (
+  arith,
+  (let fact : c.loop-e.symbol < 64 = let pre = c.requires in
+      let s = c.loop-e in
+      omega (arith, s.invariant.symbol_is, power_fits pre.0 pre.1 s.e) in fact),
+)
+
+pub bounds-room-symbol : goal.bounds-room-symbol
+bounds-room-symbol c =
+    let s = c.loop-e in
+    let at = 64 + (c.wide-round.result - 1) + s.e in
+    omega (
+      arith,
+      (let fact : c.loop-e.symbol < 64 = let pre = c.requires in
+          let s = c.loop-e in
+          omega (arith, s.invariant.symbol_is, power_fits pre.0 pre.1 s.e) in fact),
+      (let fact : powers_end ≤ length c.loop-e.room = let a = c in omega (arith, c.loop-e.invariant.long, a.requires.2, length-set a.args.room.now 0 0) in fact),
+      length-set (set s.room (64 + s.e) s.symbol) at s.symbol,
+      length-set s.room (64 + s.e) s.symbol,
+    )
+
+pub double-symbol-requires : goal.double-symbol-requires
+double-symbol-requires c =
+    let pre = c.requires in
+    (pre.0, pre.1, rw c.loop-e.invariant.symbol_is (power_below _ pre.0 pre.1 c.loop-e.e))
+
+pub loop-e-preserved : goal.loop-e-preserved
+loop-e-preserved c =
+    let s = c in
+    let t = s in
+    let a = t in
+    logging_more a.requires.0 a.requires.1 ((let fact : t.wide-round.result - 1 + 1 ≡ 2 ^ t.args.p = omega (arith, pow_pos t.args.p, t.wide-round.ensures, t.order.ensures) in fact)) a.args.room.now a.requires.2 s.loop-e.invariant s.loop-e-test.true c.double-symbol.ensures.0
+
+pub shape_of-room : goal.shape_of-room
+shape_of-room c = c.loop-e.invariant.long ∙ length-set c.args.room.now 0 0
+
+pub returns : goal.returns
+returns c =
+    let t = c in
+    let a = t in
+    logging_end a.requires.0 a.requires.1 ((let fact : t.wide-round.result - 1 + 1 ≡ 2 ^ t.args.p = omega (arith, pow_pos t.args.p, t.wide-round.ensures, t.order.ensures) in fact)) a.args.room.now a.requires.2 c.loop-e.invariant c.loop-e-test.false

@@ -1,0 +1,15 @@
+-- `matrix::clear` meets its contract. The invariant: the entries below k are 0.
+-- Assumes nothing.
+use Prim.Native.Nat.{◌-◌, ◌≤◌}
+use mathlib.Core.Path.{◌≡◌, refl}
+use native.Mathlib.Omega.{arith}
+use lib.ListN.{length}
+use Rattle.spec_range.proofs.Loop.{Over, over_none, over_more, over_table}
+use borrow.Author.Rules.{rules}
+use Rattle.matrix.proofs.clear.Given as goal
+
+abbrev pub invariant-loop-k : goal.invariant-loop-k
+invariant-loop-k l = (l.k ≤ l.size) × Over l.k (λ k. 0) l.initial.m l.m
+
+abbrev pub decreases-loop-k : goal.decreases-loop-k
+decreases-loop-k l = l.size - l.k

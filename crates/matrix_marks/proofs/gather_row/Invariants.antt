@@ -1,0 +1,16 @@
+-- `matrix_marks::gather_row` meets its contract. The invariant: the columns below j are copied.
+-- Assumes nothing.
+use mathlib.Core.Path.{◌≡◌, refl}
+use Prim.Native.Nat.{◌+◌, ◌-◌, ◌≤◌}
+use native.Mathlib.Omega.{arith}
+use Rattle.word_array.specs.Stored.{place}
+use Rattle.word_table.specs.Window.{Window}
+use Rattle.word_table.proofs.Window.{window_none, window_more}
+use borrow.Author.Rules.{rules}
+use Rattle.matrix_marks.proofs.gather_row.Given as goal
+
+abbrev pub invariant-loop-j : goal.invariant-loop-j
+invariant-loop-j l = (l.j ≤ l.n) × Window l.to l.j (λ j. place l.counts (l.from + j)) l.initial.m l.m
+
+abbrev pub decreases-loop-j : goal.decreases-loop-j
+decreases-loop-j l = l.n - l.j

@@ -1,0 +1,24 @@
+-- `matrix_marks::marked` meets its contract. The invariant: the places below j are marked.
+-- Assumes nothing.
+use Prim.Native.Nat.{◌-◌, ◌≤◌}
+use native.Mathlib.Omega.{arith}
+use lib.Dec.{eqb}
+use Rattle.spec_range.specs.Fold.{indicator}
+use Rattle.spec_range.proofs.Loop.{Held, held_none, held_more}
+use Rattle.word_array.specs.Stored.{place}
+use Rattle.word_table.proofs.Window.{held_table}
+use Rattle.matrix_marks.proofs.Marking.{byte}
+use borrow.Author.Rules.{rules}
+use Rattle.matrix_marks.proofs.marked.Goals as goal
+
+pub loop-j-init : goal.loop-j-init
+loop-j-init c = (search rules, held_none 64 _)
+
+pub loop-j-preserved : goal.loop-j-preserved
+loop-j-preserved c =
+    let s = c in
+    let a = s.args in
+    (search rules, held_more _ (omega arith) (byte (eqb (place a.w s.loop-j.j) a.s)) s.loop-j.invariant.1)
+
+pub returns : goal.returns
+returns c = held_table (omega arith) c.loop-j.invariant.1

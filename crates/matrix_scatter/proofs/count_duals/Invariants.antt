@@ -1,0 +1,21 @@
+-- `matrix_scatter::count_duals` meets its contract. The invariant: the dual words below l are counted.
+-- Assumes nothing.
+use mathlib.Core.Path.{◌≡◌, refl}
+use Prim.Native.Nat.{◌-◌}
+use native.Mathlib.Nat.{zero-add}
+use native.Mathlib.Omega.{arith}
+use lib.ListN.{length}
+use Rattle.sizes.specs.Blocks.{stride}
+use Rattle.sizes.proofs.Lengths.{blocks_high}
+use Rattle.matrix_terms.proofs.Raised.{adding_none, adding_long}
+use Rattle.matrix_terms.proofs.Received.{table_le, word_read}
+use Rattle.matrix_scatter.proofs.Duals.{logged, CountedTo, dual-started, dual-countable, dual-more, counter-end, counters-most}
+use borrow.Author.Rules.{rules}
+use Rattle.matrix_scatter.proofs.count_duals.Given as goal
+
+abbrev pub invariant-loop-l : goal.invariant-loop-l
+invariant-loop-l l =
+    (length l.w ≡ 256) × (length l.cells ≡ 512) × CountedTo (stride l.n) l.p l.n l.duals l.terms l.starts l.t l.initial.counts l.counts l.l
+
+abbrev pub decreases-loop-l : goal.decreases-loop-l
+decreases-loop-l l = l.duals - l.l

@@ -1,0 +1,38 @@
+-- `matrix_scatter::offsets` meets its contract. The invariant: the offsets of the places below j are written, twice over.
+-- Assumes nothing.
+use Prim.Native.Nat.{◌-◌}
+use native.Mathlib.Omega.{arith}
+use lib.ListN.{length-set}
+use Rattle.matrix_scatter.proofs.Offsetting.{Doubling, doubling_none, doubling_more, doubling_end}
+use borrow.Author.Rules.{rules}
+use Rattle.matrix_scatter.proofs.offsets.Goals as goal
+
+pub loop-j-init : goal.loop-j-init
+loop-j-init c = doubling_none _ _ _ _
+
+pub overflow_cast-to : goal.overflow_cast-to
+overflow_cast-to c = omega (arith, c.requires.3.symbol _ c.loop-j-test.true)
+
+pub offset_bounds-starts-w : goal.offset_bounds-starts-w
+offset_bounds-starts-w c = omega (arith, c.requires.3.symbol _ c.loop-j-test.true)
+
+pub bounds-starts-w : goal.bounds-starts-w
+bounds-starts-w c = omega (arith, c.requires.3.symbol _ c.loop-j-test.true)
+
+pub overflow_add-to : goal.overflow_add-to
+overflow_add-to c = omega (arith, c.requires.3.small _ c.loop-j-test.true)
+
+pub overflow_add-out : goal.overflow_add-out
+overflow_add-out c = omega (arith, c.requires.3.small _ c.loop-j-test.true)
+
+pub bounds-out-n : goal.bounds-out-n
+bounds-out-n c = simp length-set (omega (arith, c.loop-j.invariant.long))
+
+pub loop-j-preserved : goal.loop-j-preserved
+loop-j-preserved c = doubling_more c.loop-j.invariant c.requires.2 c.loop-j-test.true
+
+pub shape_of-out : goal.shape_of-out
+shape_of-out c = c.loop-j.invariant.long
+
+pub returns : goal.returns
+returns c = doubling_end c.loop-j.invariant c.loop-j-test.false

@@ -1,0 +1,26 @@
+-- `matrix_terms::subtract_row` meets its contract. The invariant: the places below j are subtracted.
+-- Assumes nothing.
+use Prim.Native.Nat.{◌+◌, ◌-◌}
+use native.Mathlib.Omega.{arith}
+use native.Mathlib.Nat.{le_refl}
+use Rattle.spec_range.proofs.Loop.{Over, over_none, over_more}
+use Rattle.word_array.specs.Stored.{place}
+use Rattle.matrix_terms.proofs.RowLeft.{next_covered, subtracted}
+use borrow.Author.Rules.{rules}
+use Rattle.matrix_terms.proofs.subtract_row.Goals as goal
+
+pub loop-j-init : goal.loop-j-init
+loop-j-init c = over_none _ _
+
+pub overflow_sub-left : goal.overflow_sub-left
+overflow_sub-left c =
+    let s = c in
+    next_covered s.requires c.loop-j-test.true s.loop-j.invariant
+
+pub loop-j-preserved : goal.loop-j-preserved
+loop-j-preserved c =
+    let s = c.loop-j in
+    over_more _ (omega (arith, s.invariant.long)) (rw (s.invariant.rest _ (le_refl s.j))) s.invariant
+
+pub returns : goal.returns
+returns c = subtracted c.requires c.loop-j-test.false c.loop-j.invariant

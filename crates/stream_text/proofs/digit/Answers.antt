@@ -1,0 +1,14 @@
+-- `stream_text::digit` meets its contract: each branch is a case of `glyph`.
+-- Assumes nothing.
+use borrow.Author.Tests.{lt-ltb, le-ltb}
+use Rattle.spec_program.specs.Line.{glyph}
+use borrow.Author.Rules.{rules}
+use Rattle.stream_text.proofs.digit.Goals as goal
+
+pub returns-then-d-lt10 : goal.returns-then-d-lt10
+unfolding glyph
+returns-then-d-lt10 c = simp (lt-ltb _ _ c.if-d-lt10.true)
+
+pub returns-else-d-lt10 : goal.returns-else-d-lt10
+unfolding glyph
+returns-else-d-lt10 c = simp (le-ltb _ _ c.if-d-lt10.false)

@@ -1,0 +1,15 @@
+-- `word_alike::inside` meets its contract. The invariant: the places below j are set.
+-- Assumes nothing.
+use mathlib.Core.Path.{refl}
+use Prim.Native.Nat.{◌-◌, ◌≤◌}
+use native.Mathlib.Omega.{arith}
+use Rattle.spec_range.proofs.Loop.{Held, held_none, held_more}
+use Rattle.word_array.proofs.Filled.{held_end}
+use borrow.Author.Rules.{rules}
+use Rattle.word_alike.proofs.inside.Given as goal
+
+abbrev pub invariant-loop-j : goal.invariant-loop-j
+invariant-loop-j l = (l.j ≤ l.n) × Held 256 l.j (λ _. 255) l.out
+
+abbrev pub decreases-loop-j : goal.decreases-loop-j
+decreases-loop-j l = l.n - l.j

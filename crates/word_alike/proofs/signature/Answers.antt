@@ -1,0 +1,34 @@
+-- `word_alike::signature` meets its contract. The invariant: b blocks are added up; the marks from place n on add nothing.
+-- Assumes nothing.
+use mathlib.Core.Path.{◌≡◌, ap, ◌∙◌}
+use Prim.Native.Nat.{◌+◌, ◌-◌, ◌≤◌}
+use native.Mathlib.Omega.{arith}
+use lib.ListN.{length}
+use Rattle.spec_range.proofs.Loop.{padded-length}
+use Rattle.word_array.specs.Stored.{place}
+use Rattle.word_alike.proofs.Signing.{SignedTo, signed_to_none, signed_to_more, signed_to_end}
+use borrow.Author.Rules.{rules}
+use Rattle.word_alike.proofs.signature.Goals as goal
+
+pub loop-b-init : goal.loop-b-init
+loop-b-init c =
+    let s = c.args in
+    (search rules, signed_to_none s.n (λ j. place s.rows.now (s.from + j)) s.inside.now)
+
+pub marks-m-requires : goal.marks-m-requires
+marks-m-requires c =
+    let s = c.requires in
+    (omega (arith, s.2), omega (arith, s.1, ap length s.3 ∙ padded-length 256 _ _))
+
+pub loop-b-preserved : goal.loop-b-preserved
+loop-b-preserved c =
+    let now = c.loop-b in
+    let s = c.args in
+    let marks = c.marks-m.ensures in
+    (search rules, signed_to_more s.n s.from now.b s.rows.now s.inside.now now.invariant.1 marks c.squares-sum.ensures)
+
+pub returns : goal.returns
+returns c =
+    let s = c in
+    let all : c.loop-b.b ≡ s.args.blocks = omega (arith, c.loop-b.invariant.0) in
+    signed_to_end (λ j. place s.args.rows.now (s.args.from + j)) s.requires.0 s.requires.1 s.requires.3 (rw all at c.loop-b.invariant.1)

@@ -1,0 +1,10 @@
+-- `word_divide::add_block_at` meets its contract.
+-- Assumes nothing.
+use Rattle.word_divide.proofs.Dividing.{added_written}
+use borrow.Author.Rules.{rules}
+use Rattle.word_divide.proofs.add_block_at.Goals as goal
+
+pub returns : goal.returns
+returns c =
+    let added = c in
+    added_written added.block-sum.ensures added.add_block.ensures c.put_block.ensures

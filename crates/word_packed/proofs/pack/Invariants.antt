@@ -1,0 +1,15 @@
+-- `word_packed::pack` meets its contract. The invariant: the symbols below k are packed.
+-- Assumes nothing.
+use Prim.Native.Nat.{◌-◌, ◌≤◌}
+use mathlib.Core.Path.{◌≡◌}
+use native.Mathlib.Omega.{arith}
+use lib.ListN.{get_or}
+use Rattle.word_packed.proofs.Gathering.{Gathered, gathered_none, gathered_more}
+use borrow.Author.Rules.{rules}
+use Rattle.word_packed.proofs.pack.Given as goal
+
+abbrev pub invariant-loop-k : goal.invariant-loop-k
+invariant-loop-k l = (l.k ≤ 8) × Gathered 8 l.k (λ k. get_or l.e k 0) l.x
+
+abbrev pub decreases-loop-k : goal.decreases-loop-k
+decreases-loop-k l = 8 - l.k

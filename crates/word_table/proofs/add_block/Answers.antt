@@ -1,0 +1,22 @@
+-- `word_table::add_block` meets its contract: the block is read before it is written over.
+-- Assumes nothing.
+use mathlib.Core.Path.{ap, ap₂, ◌∙◌}
+use Prim.Native.Nat.{◌+◌}
+use native.Mathlib.Omega.{arith}
+use lib.Bits.{bit_xor}
+use Rattle.spec_range.proofs.Table.{table_same}
+use Rattle.word_array.specs.Stored.{place}
+use Rattle.word_array.proofs.Eights.{part_at}
+use Rattle.word_table.proofs.Window.{read_table}
+use borrow.Author.Rules.{rules}
+use Rattle.word_table.proofs.add_block.Goals as goal
+
+pub returns : goal.returns
+returns c =
+    let read = c in
+    let start = read in
+    let from = start.args.from in
+    rw start.requires.1 at c.add_eights.ensures
+    ∙ table_same 64 (λ k l. ap₂ bit_xor
+    (read_table _ read.block-old.ensures l ∙ ap (place start.args.sum.now) (omega arith))
+    (part_at start.args.t.now from (from + 64) k (omega arith)))

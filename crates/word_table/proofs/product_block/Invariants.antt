@@ -1,0 +1,15 @@
+-- `word_table::product_block` meets its contract. The invariant: the rows of the first u places are summed.
+-- Assumes nothing.
+use Prim.Native.Nat.{◌+◌, ◌-◌, ◌*◌, ◌≤◌}
+use native.Mathlib.Omega.{arith}
+use lib.ListN.{length}
+use Rattle.word_array.specs.Stored.{place}
+use Rattle.word_table.proofs.Sums.{Summing, summing_none, summing_more, summing_end}
+use borrow.Author.Rules.{rules}
+use Rattle.word_table.proofs.product_block.Given as goal
+
+abbrev pub invariant-loop-u : goal.invariant-loop-u
+invariant-loop-u l = Summing (128 * l.blocks) 64 l.n l.count l.at (λ u. place l.symbols (l.start + u)) l.t l.u l.sum
+
+abbrev pub decreases-loop-u : goal.decreases-loop-u
+decreases-loop-u l = l.count - l.u

@@ -1,0 +1,26 @@
+-- `word_table::put_times_x` meets its contract. The invariant: the places below `to + j` are written.
+-- Assumes nothing.
+use Prim.Native.Nat.{◌-◌, ◌≤◌}
+use mathlib.Core.Path.{◌≡◌}
+use native.Mathlib.Omega.{arith}
+use Rattle.word_array.specs.Stored.{place}
+use Rattle.word_table.specs.Window.{Window}
+use Rattle.word_table.proofs.Window.{window_none, window_more}
+use Rattle.spec_field.specs.Symbols.{times_x}
+use borrow.Author.Rules.{rules}
+use Rattle.word_table.proofs.put_times_x.Goals as goal
+
+pub loop-j-init : goal.loop-j-init
+loop-j-init c = (search rules, window_none _ _ _)
+
+pub double-requires : goal.double-requires
+double-requires c = let s = c.requires in (s.0, s.1, s.3.symbol _ (omega arith))
+
+pub loop-j-preserved : goal.loop-j-preserved
+loop-j-preserved c = (search rules, window_more _ (omega arith) c.double.ensures.0 c.loop-j.invariant.1)
+
+pub shape_of-t : goal.shape_of-t
+shape_of-t c = c.loop-j.invariant.1.long
+
+pub returns : goal.returns
+returns c = let e : c.loop-j.j ≡ 64 = omega arith in rw e at c.loop-j.invariant.1
