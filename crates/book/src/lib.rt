@@ -1,4 +1,6 @@
 // The codebook: its byte layout and the conditions under which it is accepted. The book is read where it lies.
+#![tactic(auto)]
+
 ghost use Rattle.std.specs.Prelude.{◌≡◌, false, cond, ◌*◌, ◌^◌, ◌≤◌, length};
 ghost use Rattle.sizes.specs.Blocks.{stride};
 ghost use Rattle.spec_book.specs.Layout.{is_long, symbol_digits, word_length};

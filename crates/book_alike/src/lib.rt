@@ -1,5 +1,7 @@
 // Condition 8: no two dual words of a book are alike. Words that are alike have one signature, and few others do: only words with one signature
 // are compared.
+#![tactic(auto)]
+
 ghost use Rattle.std.specs.Prelude.{◌≡◌, ◌*◌, ◌^◌, ◌≤◌, length};
 ghost use Rattle.spec_range.specs.Fold.{all};
 ghost use Rattle.sizes.specs.Blocks.{stride};

@@ -1,4 +1,6 @@
 // Condition 7, of all dual words of a book at once: symbol 1 at place 0, one weight, and products with the generator that are zero.
+#![tactic(auto)]
+
 ghost use Rattle.std.specs.Prelude.{◌≡◌, ◌+◌, ◌*◌, ◌≤◌, length};
 ghost use Rattle.std.specs.Int.Bits.{bit_or};
 ghost use Rattle.spec_range.specs.Fold.{count, all};

@@ -1,4 +1,6 @@
 // Where a codebook's records lie, by its form, which the kind byte of its generator tells.
+#![tactic(auto)]
+
 ghost use Rattle.std.specs.Prelude.{◌≡◌, cond, ◌+◌, ◌/◌, ◌≤◌};
 ghost use Rattle.spec_book.specs.Layout.{is_long, width, dual_at};
 

@@ -1,4 +1,6 @@
 // The conditions 1 to 4, which ask for bytes one by one.
+#![tactic(auto)]
+
 ghost use Rattle.std.specs.Prelude.{◌≡◌, cond, ◌+◌, ◌-◌, ◌^◌, ◌≤◌, T, eqb, length};
 ghost use Rattle.spec_range.specs.Fold.{all};
 ghost use Rattle.spec_range.specs.Table.{table};

@@ -1,4 +1,6 @@
 // Bursts: M words of one codebook, received mixed, are decoded by one opening of the book.
+#![tactic(auto)]
+
 ghost use Rattle.std.specs.Prelude.{◌≡◌, false, ◌<◌, length, replicate};
 ghost use Rattle.spec_book.specs.Layout.{is_long};
 ghost use Rattle.spec_operations.specs.Burst.{burst_input_refusal, burst_refusal, burst_word};

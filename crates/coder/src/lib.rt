@@ -1,4 +1,6 @@
 // Coding a message, reading it back, and the remainder of any word, for all inputs.
+#![tactic(auto)]
+
 ghost use Rattle.std.specs.Prelude.{List, ℕ, length};
 ghost use Rattle.spec_operations.specs.Wrote.{Wrote};
 ghost use Rattle.spec_operations.specs.Coding.{code_input_refusal, code_refusal, coded, read_word_refusal, read_refusal, message_of};

@@ -1,4 +1,6 @@
 // The frequency matrix and the decoder as operations, for all inputs.
+#![tactic(auto)]
+
 ghost use Rattle.std.specs.Prelude.{◌≡◌, false, ◌&&◌, ◌*◌, ◌^◌, ◌≤◌, eqb, length};
 ghost use Rattle.spec_book.specs.Layout.{is_long};
 ghost use Rattle.spec_operations.specs.Wrote.{Wrote};

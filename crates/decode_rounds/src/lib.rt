@@ -1,4 +1,6 @@
 // The rounds of the decoder. A word is held by value; the matrix is a lent buffer. Nothing is read of the book once its terms are listed.
+#![tactic(auto)]
+
 ghost use Rattle.std.specs.Prelude.{◌≡◌, false, List, ℕ};
 ghost use Rattle.spec_book.specs.Layout.{field_of, book_of};
 ghost use Rattle.spec_decoding.specs.Matrix.{matrix};

@@ -1,4 +1,6 @@
 // The update rule: the corrections that a matrix asks for. Entry (i, j) of the matrix is at i * n + j.
+#![tactic(auto)]
+
 ghost use Rattle.std.specs.Prelude.{◌≡◌, cond, ◌&&◌, ℕ, ◌+◌, ◌*◌, ◌^◌, ◌<◌, ◌≤◌, max, leb, ltb, length, replicate};
 ghost use Rattle.spec_range.specs.Fold.{count};
 ghost use Rattle.spec_range.specs.Table.{padded};

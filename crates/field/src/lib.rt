@@ -1,4 +1,6 @@
 // The symbols of GF(2^p), p from 1 to 6: sum, product and inverse. The contracts cite the definitions of specs/.
+#![tactic(auto)]
+
 ghost use Rattle.std.specs.Prelude.{◌≡◌, ◌*◌, ◌%◌, ◌^◌, ◌<◌, ◌≤◌};
 ghost use Rattle.spec_field.specs.Symbols.{polynomial, times_x, product, inverse};
 ghost use Rattle.field.specs.Said.{said};

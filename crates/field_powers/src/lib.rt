@@ -1,4 +1,6 @@
 // Powers of x in GF(2^p), p from 1 to 6, and logarithms: x reaches every nonzero symbol, so that dividing by a symbol is an offset of powers.
+#![tactic(auto)]
+
 ghost use Rattle.std.specs.Prelude.{◌≤◌, length};
 ghost use Rattle.field_powers.specs.Powers.{PowersPut, powers_end};
 

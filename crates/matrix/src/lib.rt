@@ -1,4 +1,6 @@
 // The frequency matrix of a word, counted into a lent buffer of q * n numbers: entry (i, j) at i * n + j.
+#![tactic(auto)]
+
 ghost use Rattle.std.specs.Prelude.{◌≡◌, List, ℕ, ◌+◌, ◌%◌, ◌≤◌, length};
 ghost use Rattle.spec_range.specs.Table.{table};
 ghost use Rattle.spec_word.specs.Word.{at};

@@ -6,7 +6,6 @@ use Prim.Native.Nat.{ℕ, ◌+◌, ◌-◌, ◌*◌, ◌^◌, ◌≤◌, ◌<◌
 use native.Mathlib.Nat.{le_of_eq, le_trans, mul-le-mul}
 use native.Mathlib.Omega.{arith}
 use lib.ListN.{length, replicate, length-replicate}
-use lib.Pow.{pow_mono}
 use Rattle.spec_range.specs.Fold.{total}
 use Rattle.spec_range.proofs.Loop.{fold_none, fold_step, zero_at}
 use Rattle.spec_word.specs.Word.{at}

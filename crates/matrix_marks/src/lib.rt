@@ -1,5 +1,7 @@
 // The frequency matrix where symbols are few, by marks: for each dual word and each power of x, where its product with the received word, twice over, has
 // that power. Dividing by a symbol is an offset of rows, and turning is an offset of places, so that the counters are sums of marks.
+#![tactic(auto)]
+
 ghost use Rattle.std.specs.Prelude.{◌≡◌, ℕ, ◌+◌, ◌*◌, ◌^◌, ◌≤◌, ◌<◌, eqb, length, replicate};
 ghost use Rattle.spec_range.specs.Fold.{indicator};
 ghost use Rattle.spec_range.specs.Table.{table};

@@ -1,4 +1,6 @@
 // The frequency matrix where symbols are many: each nonzero place of a dual word raises one counter a column, in the row that logarithms tell.
+#![tactic(auto)]
+
 ghost use Rattle.std.specs.Prelude.{◌≡◌, ℕ, ◌+◌, ◌-◌, ◌*◌, ◌%◌, ◌^◌, ◌≤◌, ◌<◌, eqb, length};
 ghost use Rattle.spec_range.specs.Fold.{total, indicator};
 ghost use Rattle.spec_word.specs.Word.{at};

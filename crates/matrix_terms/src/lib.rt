@@ -1,4 +1,6 @@
 // Counting a matrix: what its ways share.
+#![tactic(auto)]
+
 ghost use Rattle.std.specs.Prelude.{◌≡◌, cond, ℕ, ◌+◌, ◌-◌, ◌*◌, ◌^◌, ◌≤◌, ◌<◌, ltb, length};
 ghost use Rattle.spec_range.specs.Fold.{total};
 ghost use Rattle.spec_range.specs.Table.{table};

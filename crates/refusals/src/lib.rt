@@ -1,4 +1,6 @@
 // The refusals 9 to 11, which every operation on a book has, the test for 14, and the answer of an operation that writes one buffer.
+#![tactic(auto)]
+
 ghost use Rattle.std.specs.Prelude.{◌≡◌, ◌*◌, ◌≤◌, eqb, length};
 ghost use Rattle.spec_book.specs.Conditions.{unless, words_ok, message_fits, input_ok, input_refusal};
 

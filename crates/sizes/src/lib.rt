@@ -1,4 +1,6 @@
 // The sizes of words, tables, matrices and books, each named once.
+#![tactic(auto)]
+
 ghost use Rattle.std.specs.Prelude.{◌≡◌, ◌*◌, ◌/◌, ◌<◌, min, ltb};
 ghost use Rattle.sizes.specs.Blocks.{blocks, shift};
 

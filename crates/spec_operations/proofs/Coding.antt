@@ -15,7 +15,7 @@ use Rattle.spec_field.specs.Field.{FieldOps, FieldLaws}
 use Rattle.spec_field.specs.Answer.{Answer, or_else}
 use Rattle.spec_field.proofs.Laws.{zero_below}
 use Rattle.spec_field.proofs.Refusals.{found_first, found_next, neither}
-use Rattle.spec_word.specs.Word.{IsWord, at, product}
+use Rattle.spec_word.specs.Word.{IsWord, at}
 use Rattle.spec_word.specs.Division.{before, coefficients, quotient}
 use Rattle.spec_word.proofs.Sums.{Symbols}
 use Rattle.spec_word.proofs.Product.{product-below}

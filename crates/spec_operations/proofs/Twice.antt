@@ -1,6 +1,6 @@
 -- Demand 3, from what two calls of decode ensure and the symmetry of the definitions.
 -- Assumes nothing.
-use mathlib.Core.Path.{◌≡◌, refl, sym, ap, ◌∙◌, subst}
+use mathlib.Core.Path.{◌≡◌, refl, sym, ap, ◌∙◌}
 use mathlib.Core.List.{List}
 use Prim.Native.Nat.{ℕ}
 use Rattle.spec_field.specs.Answer.{Answer, answer, left}

@@ -1,6 +1,6 @@
 -- SCOPE 4.3: Check, for all inputs.
 -- Assumes nothing.
-use Rattle.std.specs.Prelude.{List, [], ◌∷◌, ℕ, length}
+use Rattle.std.specs.Prelude.{List, [], ◌∷◌, ℕ}
 use Rattle.spec_field.specs.Answer.{Answer, answer}
 use Rattle.spec_book.specs.Layout.{duals_in}
 use Rattle.spec_book.specs.Conditions.{refusal}

@@ -1,5 +1,7 @@
 // Two words that are alike: the signature, a number that words which are alike share and few others do, and the comparison, which is exact.
 // A signature goes by which symbols of a word are equal, which no factor changes, and is a sum over all places, which no turn changes.
+#![tactic(auto)]
+
 ghost use Rattle.std.specs.Prelude.{◌≡◌, ◌+◌, ◌*◌, ◌%◌, ◌≤◌, ◌<◌, length};
 ghost use Rattle.std.specs.Int.Bits.{bit_and};
 ghost use Rattle.spec_range.specs.Fold.{total};

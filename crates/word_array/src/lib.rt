@@ -1,4 +1,6 @@
 // Words of n symbols, held by value and zero from place n on. The contracts cite the definitions of specs/.
+#![tactic(auto)]
+
 ghost use Rattle.std.specs.Prelude.{◌≡◌, ℕ, ◌+◌, ◌*◌, ◌/◌, ◌≤◌, length};
 ghost use Rattle.std.specs.Int.Bits.{bit_xor};
 ghost use Rattle.spec_range.specs.Table.{table, padded};

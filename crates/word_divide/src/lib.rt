@@ -1,5 +1,7 @@
 // Division by a generator whose multiples stand in a table. The remainder so far is a window of d places in the word itself, which moves down by one
 // place a step; what is above the window is not read again.
+#![tactic(auto)]
+
 ghost use Rattle.std.specs.Prelude.{◌≡◌, ◌+◌, ◌*◌, ◌≤◌, ◌<◌, length};
 ghost use Rattle.spec_word.specs.CyclicCode.{unity};
 ghost use Rattle.sizes.specs.Blocks.{span, stride};

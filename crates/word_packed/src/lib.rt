@@ -1,4 +1,6 @@
 // Eight symbols in one number, so that one step works on all of them. The contracts cite the definitions of specs/.
+#![tactic(auto)]
+
 ghost use Rattle.std.specs.Prelude.{◌≡◌, ◌<◌, length, get_or};
 ghost use Rattle.spec_range.specs.Table.{table};
 ghost use Rattle.spec_word.specs.Lanes.{lane, packed, Narrow};

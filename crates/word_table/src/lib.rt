@@ -1,5 +1,7 @@
 // Tables of the multiples of a word, off which products and divisions are read. A word stands there twice over, so that no place is taken modulo n, in a row
 // of two blocks for each of its own: loops over a block have a fixed length and are whole vector steps.
+#![tactic(auto)]
+
 ghost use Rattle.std.specs.Prelude.{◌≡◌, ℕ, ◌+◌, ◌*◌, ◌^◌, ◌≤◌, ◌<◌, length};
 ghost use Rattle.std.specs.Int.Bits.{bit_xor};
 ghost use Rattle.spec_range.specs.Table.{table, padded};

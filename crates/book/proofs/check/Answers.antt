@@ -3,7 +3,6 @@
 use mathlib.Core.Path.{◌≡◌, refl, sym, ◌∙◌}
 use mathlib.Core.Bool.{Bool, true, false, true≢false, cond}
 use Rattle.book.proofs.Rooms.{few_room, any_room}
-use borrow.Author.Rules.{rules}
 use Rattle.book.proofs.check.Goals as goal
 
 -- the smallest room is for short books with few symbols

@@ -2,7 +2,6 @@
 -- Assumes nothing.
 use native.Mathlib.Omega.{arith}
 use Rattle.book.proofs.Answering.{opens_open, opens_refused, duals_high, counts_duals, tells_number}
-use borrow.Author.Rules.{rules}
 use Rattle.book.proofs.check_in.Goals as goal
 
 pub overflow_cast-result : goal.overflow_cast-result

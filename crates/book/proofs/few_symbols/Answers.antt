@@ -2,7 +2,6 @@
 -- Assumes nothing.
 use native.Mathlib.Omega.{arith}
 use lib.ListN.{get_or-eq_default}
-use borrow.Author.Rules.{rules}
 use Rattle.book.proofs.few_symbols.Goals as goal
 
 pub returns-then-book-lt-GENERATOR_AT : goal.returns-then-book-lt-GENERATOR_AT

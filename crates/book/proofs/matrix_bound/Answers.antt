@@ -8,7 +8,6 @@ use Rattle.spec_book.proofs.Accepting.{sizes}
 use Rattle.book_records.proofs.Tested.{readable}
 use Rattle.book.specs.Opened.{MatrixBound}
 use Rattle.book.proofs.Rooms.{exponent_le, digits_le, exponent_most, digits_most, matrix_bounded, no_matrix}
-use borrow.Author.Rules.{rules}
 use Rattle.book.proofs.matrix_bound.Goals as goal
 
 pub returns-then-book-lt-GENERATOR_AT : goal.returns-then-book-lt-GENERATOR_AT

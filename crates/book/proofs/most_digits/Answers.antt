@@ -1,7 +1,6 @@
 -- `book::most_digits` meets its contract.
 -- Assumes nothing.
 use mathlib.Core.Path.{sym, ◌∙◌}
-use borrow.Author.Rules.{rules}
 use Rattle.book.proofs.most_digits.Goals as goal
 
 pub returns-then-is_long : goal.returns-then-is_long

@@ -7,7 +7,6 @@ use Rattle.spec_book.proofs.Accepting.{sizes}
 use Rattle.book_records.proofs.Tested.{readable_records}
 use Rattle.book.proofs.Gathering.{records_number}
 use Rattle.book.proofs.Rooms.{room_fits}
-use borrow.Author.Rules.{rules}
 use Rattle.book.proofs.open.Goals as goal
 
 pub returns-then-number-ne0 : goal.returns-then-number-ne0

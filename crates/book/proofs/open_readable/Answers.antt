@@ -1,13 +1,12 @@
 -- `book::open_readable` meets its contract: each value was read where the book has it, and the table is that of the generator.
 -- Assumes nothing.
-use mathlib.Core.Path.{◌≡◌, refl, ap, ◌∙◌}
+use mathlib.Core.Path.{refl, ap, ◌∙◌}
 use native.Mathlib.Omega.{arith}
 use Rattle.spec_book.specs.Layout.{symbol_digits, byte, book_of}
 use Rattle.spec_book.proofs.Accepting.{sizes}
 use Rattle.book.specs.Params.{Read}
 use Rattle.book.proofs.Reading.{degree_of_lem, sized, read_sizes, read_spanned, generator_symbol}
 use Rattle.book.proofs.Gathering.{tabulated, number_is, described}
-use borrow.Author.Rules.{rules}
 use Rattle.book.specs.Opened.{Gathered}
 use Rattle.book.proofs.open_readable.Goals as goal
 

@@ -1,7 +1,6 @@
 -- `book::small_table` meets its contract.
 -- Assumes nothing.
 use mathlib.Core.Path.{sym, ◌∙◌}
-use borrow.Author.Rules.{rules}
 use Rattle.book.proofs.small_table.Goals as goal
 
 pub returns-then-is_long : goal.returns-then-is_long

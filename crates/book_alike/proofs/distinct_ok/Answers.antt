@@ -3,7 +3,6 @@
 use mathlib.Core.Path.{sym, ◌∙◌}
 use native.Mathlib.Omega.{arith}
 use Rattle.book_alike.proofs.Differing.{all_once, no_pair}
-use borrow.Author.Rules.{rules}
 use Rattle.book_alike.proofs.distinct_ok.Goals as goal
 
 pub returns-then-duals-lt2 : goal.returns-then-duals-lt2

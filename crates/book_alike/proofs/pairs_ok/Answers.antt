@@ -1,12 +1,9 @@
 -- `book_alike::pairs_ok` meets its contract. The invariant: no dual word below l is like one before it.
 -- Assumes nothing.
-use mathlib.Core.Path.{◌≡◌, refl, sym, ap, ◌∙◌}
+use mathlib.Core.Path.{refl, sym, ap, ◌∙◌}
 use mathlib.Core.Bool.{not}
-use Prim.Native.Nat.{◌-◌}
 use native.Mathlib.Omega.{arith}
-use lib.ListN.{length}
-use Rattle.spec_range.proofs.Loop.{Passing, passing_none, passing_more, passing_fails, passing_end}
-use Rattle.book_alike.specs.Compared.{differ}
+use Rattle.spec_range.proofs.Loop.{passing_none, passing_more, passing_fails, passing_end}
 use Rattle.book_alike.proofs.Differing.{comparable_part, signed_part}
 use borrow.Author.Rules.{rules}
 use Rattle.book_alike.proofs.pairs_ok.Goals as goal

@@ -1,8 +1,7 @@
 -- `book_duals::join` meets its contract. The invariant: b blocks are joined.
 -- Assumes nothing.
-use Prim.Native.Nat.{◌-◌}
 use native.Mathlib.Omega.{arith}
-use Rattle.book_duals.proofs.Joined.{Joining, joining_none, joining_more, joining_end}
+use Rattle.book_duals.proofs.Joined.{joining_none, joining_more, joining_end}
 use borrow.Author.Rules.{rules}
 use Rattle.book_duals.proofs.join.Goals as goal
 

@@ -1,9 +1,7 @@
 -- `book_duals::join` meets its contract. The invariant: b blocks are joined.
 -- Assumes nothing.
 use Prim.Native.Nat.{◌-◌}
-use native.Mathlib.Omega.{arith}
-use Rattle.book_duals.proofs.Joined.{Joining, joining_none, joining_more, joining_end}
-use borrow.Author.Rules.{rules}
+use Rattle.book_duals.proofs.Joined.{Joining}
 use Rattle.book_duals.proofs.join.Given as goal
 
 abbrev pub invariant-loop-b : goal.invariant-loop-b

@@ -1,14 +1,9 @@
 -- `book_duals::join_block` meets its contract. The invariant: j places are joined.
 -- Assumes nothing.
-use mathlib.Core.Path.{◌≡◌}
 use Prim.Native.Nat.{◌+◌, ◌-◌, ◌≤◌}
-use native.Mathlib.Nat.{le_refl}
-use native.Mathlib.Omega.{arith}
 use lib.Bits.{bit_or}
 use Rattle.word_array.specs.Stored.{place}
 use Rattle.word_table.specs.Window.{Window}
-use Rattle.word_table.proofs.Window.{window_none, window_more}
-use borrow.Author.Rules.{rules}
 use Rattle.book_duals.proofs.join_block.Given as goal
 
 abbrev pub invariant-loop-j : goal.invariant-loop-j

@@ -1,9 +1,7 @@
 -- `book_duals::weight_at` meets its contract. The invariant: `count` is the number of nonzero bytes in b blocks.
 -- Assumes nothing.
 use Prim.Native.Nat.{◌-◌}
-use native.Mathlib.Omega.{arith}
-use Rattle.book_duals.proofs.Weights.{Weighed, weighed_none, weighed_le, weighed_more, weighed_end}
-use borrow.Author.Rules.{rules}
+use Rattle.book_duals.proofs.Weights.{Weighed}
 use Rattle.book_duals.proofs.weight_at.Given as goal
 
 abbrev pub invariant-loop-b : goal.invariant-loop-b

@@ -1,10 +1,7 @@
 -- `book_duals::weight_block` meets its contract. The invariant: `count` is the number of nonzero bytes below place j.
 -- Assumes nothing.
-use Prim.Native.Nat.{◌+◌, ◌-◌}
 use native.Mathlib.Omega.{arith}
-use Rattle.spec_word.specs.Word.{nonzero}
-use Rattle.word_array.specs.Stored.{place}
-use Rattle.word_array.proofs.Counted.{Counted, counted_none, counted_more, counted-byte, counted_end}
+use Rattle.word_array.proofs.Counted.{counted_none, counted_more, counted-byte, counted_end}
 use borrow.Author.Rules.{rules}
 use Rattle.book_duals.proofs.weight_block.Goals as goal
 

@@ -2,11 +2,10 @@
 -- Assumes nothing.
 use mathlib.Core.Path.{◌≡◌, sym, ap, ap₂, ◌∙◌}
 use mathlib.Core.Bool.{true, ◌&&◌}
-use Prim.Native.Nat.{ℕ, ◌+◌, ◌-◌, ◌≤◌}
+use Prim.Native.Nat.{ℕ, ◌+◌, ◌≤◌}
 use native.Mathlib.Omega.{arith}
 use lib.Dec.{eqb}
 use lib.ListN.{length}
-use Rattle.spec_range.specs.Fold.{all}
 use Rattle.spec_range.proofs.Fold.{tests}
 use Rattle.spec_range.proofs.Loop.{fold_none, fold_step}
 use Rattle.sizes.proofs.Lengths.{blocks_high}

@@ -1,21 +1,9 @@
 -- `book_duals::weights_ok` meets its contract. The invariant: `ok` tells whether the dual words below l are right.
 -- Assumes nothing.
-use mathlib.Core.Path.{◌≡◌, sym, ap, ap₂, ◌∙◌}
-use mathlib.Core.Bool.{true, ◌&&◌}
-use Prim.Native.Nat.{ℕ, ◌+◌, ◌-◌, ◌≤◌}
-use native.Mathlib.Omega.{arith}
-use lib.Dec.{eqb}
-use lib.ListN.{length}
+use mathlib.Core.Path.{◌≡◌}
+use Prim.Native.Nat.{◌-◌, ◌≤◌}
 use Rattle.spec_range.specs.Fold.{all}
-use Rattle.spec_range.proofs.Fold.{tests}
-use Rattle.spec_range.proofs.Loop.{fold_none, fold_step}
-use Rattle.sizes.proofs.Lengths.{blocks_high}
-use Rattle.spec_book.specs.Layout.{width}
 use Rattle.book_duals.specs.Duals.{weight_ok}
-use Rattle.spec_book.proofs.Accepting.{width_low}
-use Rattle.book_duals.proofs.Places.{dual_room}
-use Rattle.book_duals.proofs.Weights.{dual_first, dual_weight, weights_same}
-use borrow.Author.Rules.{rules}
 use Rattle.book_duals.proofs.weights_ok.Given as goal
 
 abbrev pub invariant-loop-l : goal.invariant-loop-l

@@ -2,7 +2,6 @@
 -- Assumes nothing.
 use native.Mathlib.Omega.{arith}
 use lib.ListN.{get_or-eq_default}
-use borrow.Author.Rules.{rules}
 use Rattle.book_layout.proofs.is_long.Goals as goal
 
 pub returns-then-book-le-GENERATOR_AT : goal.returns-then-book-le-GENERATOR_AT

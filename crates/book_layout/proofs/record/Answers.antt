@@ -1,7 +1,6 @@
 -- `book_layout::record` meets its contract: the width is that of the book's form.
 -- Assumes nothing.
 use Rattle.spec_book.specs.Layout.{width}
-use borrow.Author.Rules.{rules}
 use Rattle.book_layout.proofs.record.Goals as goal
 
 pub returns : goal.returns

@@ -1,13 +1,10 @@
 -- `book_records::block_ok` meets its contract. The invariant: `bad` is the number of places below j that are not below their bound.
 -- Assumes nothing.
 use Prim.Native.Nat.{◌+◌, ◌-◌}
-use native.Mathlib.Omega.{arith}
 use lib.Dec.{leb}
 use lib.ListN.{get_or}
-use Rattle.word_array.proofs.Counted.{Counted, counted_none, counted_more, counted-byte, counted_end}
+use Rattle.word_array.proofs.Counted.{Counted}
 use Rattle.spec_book.specs.Layout.{byte}
-use Rattle.book_records.proofs.Bounded.{none_bad}
-use borrow.Author.Rules.{rules}
 use Rattle.book_records.proofs.block_ok.Given as goal
 
 abbrev pub invariant-loop-j : goal.invariant-loop-j

@@ -1,8 +1,7 @@
 -- `book_records::body_ok` meets its contract. The invariant: `ok` says whether the places of the first b blocks are below their bounds.
 -- Assumes nothing.
-use Prim.Native.Nat.{◌-◌}
 use native.Mathlib.Omega.{arith}
-use Rattle.book_records.proofs.Bounded.{Bounded, bounded_none, bounded_more, bounded_end, bounds_room}
+use Rattle.book_records.proofs.Bounded.{bounded_none, bounded_more, bounded_end, bounds_room}
 use borrow.Author.Rules.{rules}
 use Rattle.book_records.proofs.body_ok.Goals as goal
 

@@ -1,13 +1,9 @@
 -- `book_records::bounds` meets its contract. The invariant: the places from 1 to j hold q, the first has 255, the others 1.
 -- Assumes nothing.
 use mathlib.Core.Path.{refl}
-use mathlib.Core.Bool.{cond}
-use Prim.Native.Nat.{◌+◌, ◌-◌, ◌≤◌}
 use native.Mathlib.Omega.{arith}
 use borrow.Author.Tests.{ne_eqb}
-use lib.Dec.{eqb}
-use lib.ListN.{replicate}
-use Rattle.spec_range.proofs.Loop.{Over, over_none, over_more}
+use Rattle.spec_range.proofs.Loop.{over_none, over_more}
 use Rattle.book_records.proofs.Bounded.{bounds_end}
 use borrow.Author.Rules.{rules}
 use Rattle.book_records.proofs.bounds.Goals as goal

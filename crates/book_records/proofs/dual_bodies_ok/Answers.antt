@@ -1,10 +1,7 @@
 -- `book_records::dual_bodies_ok` meets its contract. The invariant: the bodies of the dual words below l are right.
 -- Assumes nothing.
-use Prim.Native.Nat.{◌-◌}
 use native.Mathlib.Omega.{arith}
-use Rattle.spec_range.proofs.Loop.{Passing, passing_none, passing_more, passing_fails, passing_end}
-use Rattle.spec_book.specs.Layout.{width, dual_at, duals_in}
-use Rattle.spec_book.specs.Conditions.{body_ok}
+use Rattle.spec_range.proofs.Loop.{passing_none, passing_more, passing_fails, passing_end}
 use Rattle.book_records.proofs.Tested.{failed, passed, dual_body}
 use borrow.Author.Rules.{rules}
 use Rattle.std.proofs.lemmas.Bool.{not_from_true, not_from_false}

@@ -5,7 +5,6 @@ use mathlib.Core.Bool.{Bool, cond}
 use Prim.Native.Nat.{ℕ, ◌+◌, ◌/◌}
 use native.Mathlib.Omega.{arith}
 use Rattle.spec_book.specs.Layout.{width, duals_in}
-use borrow.Author.Rules.{rules}
 use Rattle.book_records.proofs.dual_count.Goals as goal
 
 pub returns : goal.returns

@@ -1,11 +1,8 @@
 -- `book_records::dual_kinds_ok` meets its contract. The invariant: the dual words below l have their kind byte.
 -- Assumes nothing.
-use Prim.Native.Nat.{◌-◌}
 use native.Mathlib.Omega.{arith}
 use borrow.Author.Tests.{eq-eqb, ne_eqb}
-use lib.Dec.{eqb}
-use Rattle.spec_range.proofs.Loop.{Passing, passing_none, passing_more, passing_fails, passing_end}
-use Rattle.spec_book.specs.Layout.{width, dual_at, duals_in, byte}
+use Rattle.spec_range.proofs.Loop.{passing_none, passing_more, passing_fails, passing_end}
 use Rattle.book_records.proofs.Tested.{dual_room}
 use borrow.Author.Rules.{rules}
 use Rattle.book_records.proofs.dual_kinds_ok.Goals as goal

@@ -5,7 +5,6 @@ use native.Mathlib.Omega.{arith}
 use borrow.Author.Tests.{le-leb, lt-leb, eq-eqb, ne_eqb}
 use lib.ListN.{length}
 use Rattle.spec_book.specs.Conditions.{length_ok}
-use borrow.Author.Rules.{rules}
 use Rattle.book_records.proofs.length_ok.Goals as goal
 
 pub returns-then-len-le-GENERATOR_AT : goal.returns-then-len-le-GENERATOR_AT

@@ -3,7 +3,6 @@
 use Rattle.spec_book.proofs.Accepting.{own_length, whole}
 use Rattle.book_records.specs.Records.{records_refusal}
 use Rattle.book_records.proofs.Tested.{failed, passed, held}
-use borrow.Author.Rules.{rules}
 use Rattle.std.proofs.lemmas.Bool.{not_from_true, not_from_false}
 use Rattle.book_records.proofs.refusal.Goals as goal
 

@@ -8,7 +8,6 @@ use lib.Dec.{eqb, leb}
 use Rattle.spec_book.specs.Layout.{byte}
 use Rattle.spec_book.specs.Conditions.{sizes_ok}
 use Rattle.book_records.proofs.Tested.{sizes_tested}
-use borrow.Author.Rules.{rules}
 use Rattle.book_records.proofs.sizes_ok.Goals as goal
 
 pub returns-then-s-low : goal.returns-then-s-low

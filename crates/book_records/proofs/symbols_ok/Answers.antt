@@ -7,7 +7,6 @@ use Rattle.spec_book.proofs.Accepting.{sizes}
 use Rattle.book_records.specs.Records.{Bounds}
 use Rattle.book_records.proofs.Bounded.{bounded}
 use Rattle.book_records.proofs.Tested.{failed, passed, exponent_high, generator_body}
-use borrow.Author.Rules.{rules}
 use Rattle.std.proofs.lemmas.Bool.{not_from_true, not_from_false}
 use Rattle.book_records.proofs.symbols_ok.Goals as goal
 

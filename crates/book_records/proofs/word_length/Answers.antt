@@ -3,7 +3,6 @@
 use Prim.Native.Nat.{◌^◌, ◌≤◌}
 use native.Mathlib.Omega.{arith}
 use lib.Pow.{pow_pos, pow_mono}
-use borrow.Author.Rules.{rules}
 use Rattle.book_records.proofs.word_length.Goals as goal
 
 pub overflow_sub-result : goal.overflow_sub-result

@@ -5,7 +5,6 @@ use native.Mathlib.Omega.{arith}
 use Rattle.book.proofs.Answering.{opens_open, opens_refused}
 use Rattle.decode.proofs.Answering.{listed_room}
 use Rattle.burst.proofs.Answering.{burst_ends_refused, burst_accepted, burst_refused, answered_same}
-use borrow.Author.Rules.{rules}
 use Rattle.burst.proofs.burst_opened.Goals as goal
 
 pub burst_words-requires : goal.burst_words-requires

@@ -3,7 +3,6 @@
 use mathlib.Core.Path.{sym, ◌∙◌}
 use Rattle.book.proofs.Rooms.{few_room, any_room}
 use Rattle.decode.proofs.Answering.{short_unlisted}
-use borrow.Author.Rules.{rules}
 use Rattle.burst.proofs.burst_short.Goals as goal
 
 pub open-opened-requires : goal.open-opened-requires

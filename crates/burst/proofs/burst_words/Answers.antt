@@ -4,7 +4,6 @@ use mathlib.Core.Path.{sym, ap, ◌∙◌}
 use Prim.Native.Nat.{ℕ, ◌*◌}
 use Rattle.spec_operations.proofs.Burst.{taken_burst}
 use Rattle.burst.proofs.Answering.{burst_ends_refused, burst_ends_done, received, matrix_sized}
-use borrow.Author.Rules.{rules}
 use Rattle.burst.proofs.burst_words.Goals as goal
 
 pub returns-then-number-ne0 : goal.returns-then-number-ne0

@@ -1,7 +1,6 @@
 -- `burst::decode_burst` meets its contract.
 -- Assumes nothing.
 use mathlib.Core.Path.{sym, ◌∙◌}
-use borrow.Author.Rules.{rules}
 use Rattle.burst.proofs.decode_burst.Goals as goal
 
 pub returns-then-is_long : goal.returns-then-is_long

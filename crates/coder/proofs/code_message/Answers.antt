@@ -9,7 +9,6 @@ use Rattle.book.proofs.Described.{params_sizes, degree_high}
 use Rattle.coder.proofs.Opening.{code-number, taken, size_at_most}
 use Rattle.coder.proofs.Working.{room_within, rows, word_coded}
 use Rattle.sizes.proofs.Lengths.{blocks_high}
-use borrow.Author.Rules.{rules}
 use Rattle.coder.proofs.code_message.Goals as goal
 
 pub overflow_sub-k : goal.overflow_sub-k

@@ -7,7 +7,6 @@ use Rattle.spec_operations.proofs.Remainder.{remainder_refused, remainder_goes_o
 use Rattle.book.proofs.Answering.{opens_refused}
 use Rattle.book.proofs.Rooms.{any_room}
 use Rattle.coder.proofs.Opening.{opened}
-use borrow.Author.Rules.{rules}
 use Rattle.coder.proofs.remainder.Goals as goal
 
 pub open-opened-requires : goal.open-opened-requires

@@ -9,7 +9,6 @@ use Rattle.book.proofs.Described.{params_sizes, degree_low, degree_high}
 use Rattle.coder.proofs.Opening.{remainder-number, taken, size_is}
 use Rattle.coder.proofs.Working.{room_within, word-stored, word-remainder}
 use Rattle.sizes.proofs.Lengths.{blocks_high}
-use borrow.Author.Rules.{rules}
 use Rattle.coder.proofs.remainder_word.Goals as goal
 
 pub order-q-requires : goal.order-q-requires

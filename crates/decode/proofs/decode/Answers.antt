@@ -1,7 +1,6 @@
 -- `decode::decode` meets its contract.
 -- Assumes nothing.
 use mathlib.Core.Path.{sym, ◌∙◌}
-use borrow.Author.Rules.{rules}
 use Rattle.decode.proofs.decode.Goals as goal
 
 pub returns-then-is_long : goal.returns-then-is_long

@@ -3,7 +3,6 @@
 use mathlib.Core.Path.{sym, ◌∙◌}
 use Rattle.book.proofs.Rooms.{long_few_room, any_room}
 use Rattle.decode.proofs.Answering.{any_unlisted}
-use borrow.Author.Rules.{rules}
 use Rattle.decode.proofs.decode_long.Goals as goal
 
 pub open-opened-requires : goal.open-opened-requires

@@ -4,7 +4,6 @@ use mathlib.Core.Path.{refl}
 use native.Mathlib.Omega.{arith}
 use Rattle.book.proofs.Answering.{opens_open, opens_refused}
 use Rattle.decode.proofs.Answering.{listed_room, decodes_refused, decodes_same, decode-accepted, decode_refused}
-use borrow.Author.Rules.{rules}
 use Rattle.decode.proofs.decode_opened.Goals as goal
 
 pub decode_word-requires : goal.decode_word-requires

@@ -2,7 +2,6 @@
 -- Assumes nothing.
 use mathlib.Core.Path.{refl}
 use native.Mathlib.Omega.{arith}
-use borrow.Author.Rules.{rules}
 use Rattle.spec_operations.proofs.Wrote.{wrote_refused}
 use Rattle.book.proofs.Answering.{opens_open, opens_refused}
 use Rattle.book.proofs.Rooms.{any_room}

@@ -1,6 +1,6 @@
 -- `decode::matrix_word` meets its contract.
 -- Assumes nothing.
-use mathlib.Core.Path.{◌≡◌, sym, ap, ◌∙◌}
+use mathlib.Core.Path.{sym, ap, ◌∙◌}
 use native.Mathlib.Omega.{arith}
 use lib.Dec.{eqb, eqb→eq}
 use lib.ListN.{length}
@@ -11,7 +11,6 @@ use Rattle.decode_rounds.proofs.Stepping.{params_fillable}
 use Rattle.decode.proofs.Answering.{matrix_number, input, input-size, input-listed, loaded-stored, matrix_made}
 use Rattle.spec_range.proofs.Loop.{padded-length}
 use Rattle.sizes.proofs.Lengths.{blocks_high}
-use borrow.Author.Rules.{rules}
 use Rattle.decode.proofs.matrix_word.Goals as goal
 
 pub matrix_size-requires : goal.matrix_size-requires

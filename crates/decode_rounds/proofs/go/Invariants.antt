@@ -1,20 +1,14 @@
 -- `decode_rounds::go` meets its contract. The invariant: whichever bytes hold the opened book, what is left to run is the whole.
 -- Assumes nothing.
-use mathlib.Core.Path.{◌≡◌, refl, sym, ap, ◌∙◌}
+use mathlib.Core.Path.{◌≡◌}
 use mathlib.Core.List.{List}
-use Prim.Native.Nat.{ℕ, ◌-◌, ◌*◌, ◌^◌}
-use native.Mathlib.Omega.{arith}
-use borrow.Author.Rules.{rules}
+use Prim.Native.Nat.{ℕ, ◌-◌}
 use lib.ListN.{length}
 use Rattle.spec_book.specs.Layout.{field_of, book_of}
 use Rattle.spec_decoding.specs.Matrix.{matrix}
-use Rattle.spec_decoding.proofs.Matrix.{matrix-length}
 use Rattle.word_array.specs.Stored.{Stored}
-use Rattle.book.specs.Opened.{OpenBook}
-use Rattle.book.specs.declared.Params.{Params}
-use Rattle.book.proofs.Described.{params_matrix}
 use Rattle.decode_rounds.specs.Rounds.{Prepared}
-use Rattle.decode_rounds.proofs.Running.{Left, left-all, left_more, ended-stalled, ended-mended, ended_spent}
+use Rattle.decode_rounds.proofs.Running.{Left}
 use Rattle.decode_rounds.proofs.go.Given as goal
 
 -- the matrices that the book in the bytes makes

@@ -1,12 +1,8 @@
 -- `decode_update::at_most` meets its contract. The invariant: `count` is the number of those of the first b blocks that are at most x.
 -- Assumes nothing.
-use Prim.Native.Nat.{◌-◌}
 use native.Mathlib.Omega.{arith}
-use lib.Dec.{leb}
-use Rattle.word_array.specs.Stored.{place}
 use Rattle.decode_update.specs.Rule.{at_most}
-use Rattle.decode_update.proofs.Counts.{Blocked, blocked_none, blocked_more, blocked_end}
-use borrow.Author.Rules.{rules}
+use Rattle.decode_update.proofs.Counts.{blocked_none, blocked_more, blocked_end}
 use Rattle.decode_update.proofs.at_most.Goals as goal
 
 pub loop-b-init : goal.loop-b-init

@@ -1,10 +1,7 @@
 -- `decode_update::at_most_block` meets its contract. The invariant: `count` is the number of those below place j of the block that are at most x.
 -- Assumes nothing.
-use Prim.Native.Nat.{◌+◌, ◌-◌}
 use native.Mathlib.Omega.{arith}
-use lib.Dec.{leb}
-use Rattle.word_array.specs.Stored.{place}
-use Rattle.word_array.proofs.Counted.{Counted, counted_none, counted_more, counted_end}
+use Rattle.word_array.proofs.Counted.{counted_none, counted_more, counted_end}
 use Rattle.decode_update.proofs.Counts.{counted_fits}
 use borrow.Author.Rules.{rules}
 use Rattle.decode_update.proofs.at_most_block.Goals as goal

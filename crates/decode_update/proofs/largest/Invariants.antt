@@ -1,11 +1,7 @@
 -- `decode_update::largest` meets its contract. The invariant: the numbers below place j are at most `most`.
 -- Assumes nothing.
 use Prim.Native.Nat.{ℕ, ◌-◌, ◌≤◌, ◌<◌}
-use native.Mathlib.Nat.{not-suc-le-zero}
-use native.Mathlib.Omega.{arith}
 use Rattle.word_array.specs.Stored.{place}
-use borrow.Author.Count.{below_more}
-use borrow.Author.Rules.{rules}
 use Rattle.decode_update.proofs.largest.Given as goal
 
 abbrev pub invariant-loop-j : goal.invariant-loop-j

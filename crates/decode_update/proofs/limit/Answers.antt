@@ -1,11 +1,8 @@
 -- `decode_update::limit` meets its contract. The invariant: the limit is one of the `width` numbers from `least` on.
 -- Assumes nothing.
-use mathlib.Core.Logic.{⊎_elim}
-use Prim.Native.Nat.{◌*◌}
 use native.Mathlib.Omega.{arith}
-use Rattle.decode_update.proofs.Search.{Sought, sought-after, sought-before}
-use Rattle.decode_update.proofs.Limits.{Low, low_falls, low-start, low_end}
-use borrow.Author.Rules.{rules}
+use Rattle.decode_update.proofs.Search.{sought-after, sought-before}
+use Rattle.decode_update.proofs.Limits.{low_falls, low-start, low_end}
 use Rattle.decode_update.proofs.limit.Goals as goal
 use Rattle.decode_update.proofs.limit.Goals.{then-at_most-most, else-at_most-most}
 

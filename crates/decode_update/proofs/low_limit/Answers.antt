@@ -2,7 +2,6 @@
 -- Assumes nothing.
 use native.Mathlib.Omega.{arith}
 use Rattle.decode_update.proofs.Limits.{blocks_hold, limit_front, top_counts, low_all}
-use borrow.Author.Rules.{rules}
 use Rattle.decode_update.proofs.low_limit.Goals as goal
 
 pub returns-then-n-places : goal.returns-then-n-places

@@ -1,12 +1,11 @@
 -- `decode_update::peaks` meets its contract. The invariant: rows 1 to i - 1 are taken.
 -- Assumes nothing.
 use mathlib.Core.Path.{◌≡◌}
-use Prim.Native.Nat.{◌+◌, ◌-◌, ◌*◌, ◌^◌, ◌≤◌}
+use Prim.Native.Nat.{◌+◌, ◌*◌, ◌^◌, ◌≤◌}
 use native.Mathlib.Omega.{arith}
 use lib.Pow.{pow_pos}
 use lib.ListN.{length}
-use Rattle.decode_update.proofs.Climbing.{Climbing, climbing_none, climbing_more, row_within, part_length}
-use borrow.Author.Rules.{rules}
+use Rattle.decode_update.proofs.Climbing.{climbing_none, climbing_more, row_within, part_length}
 use Rattle.decode_update.proofs.peaks.Goals as goal
 
 pub overflow_sub-last : goal.overflow_sub-last

@@ -1,7 +1,6 @@
 -- `decode_update::take_row` meets its contract. The invariant: the places below j have taken the row, the others are as they were.
 -- Assumes nothing.
-use Prim.Native.Nat.{◌-◌}
-use Rattle.decode_update.proofs.Taking.{Taking, taking_none, taking-more, taking-end}
+use Rattle.decode_update.proofs.Taking.{taking_none, taking-more, taking-end}
 use borrow.Author.Rules.{rules}
 use Rattle.decode_update.proofs.take_row.Goals as goal
 

@@ -1,16 +1,8 @@
 -- `decode_update::widened` meets its contract. The invariant: the places below j are the slice's, the others the largest number.
 -- Assumes nothing.
 use Prim.Native.Nat.{ℕ, ◌-◌, ◌≤◌, ◌<◌}
-use mathlib.Core.Path.{◌≡◌, refl, ◌∙◌}
-use mathlib.Core.Logic.{⊎_elim}
-use native.Mathlib.Nat.{not-suc-le-zero}
-use native.Mathlib.Omega.{arith}
-use lib.ListN.{length-replicate, get_or-replicate}
-use Rattle.spec_range.proofs.Loop.{Over, over_none, over_more}
+use Rattle.spec_range.proofs.Loop.{Over}
 use Rattle.word_array.specs.Stored.{place}
-use Rattle.decode_update.proofs.Search.{le_or_lt}
-use borrow.Author.Count.{below_more}
-use borrow.Author.Rules.{rules}
 use Rattle.decode_update.proofs.widened.Given as goal
 
 abbrev pub invariant-loop-j : goal.invariant-loop-j

@@ -1,7 +1,6 @@
 -- `field::double` meets its contract. Assumes nothing.
 use mathlib.Core.Path.{sym, subst}
 use Prim.Native.Nat.{ℕ, ◌^◌, ◌<◌}
-use borrow.Author.Rules.{rules}
 use Rattle.spec_field.proofs.Gf.{times_x-below}
 use Rattle.field.proofs.double.Goals as goal
 

@@ -1,7 +1,6 @@
 -- `field::inverse_refusal` meets its contract.
 -- Assumes nothing.
 use mathlib.Core.Path.{◌∙◌, sym}
-use borrow.Author.Rules.{rules}
 use borrow.Author.Tests.{eq-eqb, ne_eqb}
 use Rattle.spec_field.specs.Operations.{inverse_refusal}
 use Rattle.spec_field.proofs.Refusals.{found_first}

@@ -1,12 +1,8 @@
 -- `field::mul` meets its contract. The loop's invariant: what is summed, with the steps to come, makes the product. Assumes nothing.
-use mathlib.Core.Path.{◌≡◌, ap, ap₂, ◌∙◌, sym, subst}
-use Prim.Native.Nat.{ℕ, suc, ◌+◌, ◌-◌, ◌/◌, ◌^◌, ◌<◌, ◌≤◌}
-use native.Mathlib.Omega.{arith}
-use borrow.Author.Rules.{rules}
-use lib.Bits.{bit_xor, xor_zero_r}
+use mathlib.Core.Path.{◌≡◌}
+use Prim.Native.Nat.{◌-◌, ◌^◌, ◌<◌, ◌≤◌}
+use lib.Bits.{bit_xor}
 use Rattle.spec_field.specs.Symbols.{shift_add, product}
-use Rattle.spec_field.proofs.ShiftAdd.{shift_add_step, product_in_steps}
-use Rattle.spec_field.proofs.Gf.{times_x-below, product-below}
 use Rattle.field.proofs.mul.Given as goal
 
 abbrev pub invariant-loop : goal.invariant-loop

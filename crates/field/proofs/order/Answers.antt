@@ -1,5 +1,4 @@
 -- `field::order` meets its contract. Assumes nothing.
-use borrow.Author.Rules.{rules}
 use Rattle.field.proofs.Masks.{one_shifted}
 use Rattle.field.proofs.order.Goals as goal
 

@@ -2,7 +2,6 @@
 use mathlib.Core.Bool.{Bool}
 use mathlib.Core.Path.{◌≡◌}
 use Prim.Native.Nat.{ℕ, ◌*◌, ◌/◌, ◌%◌, ◌^◌, ◌≤◌, suc-le-suc}
-use borrow.Author.Rules.{rules}
 use lib.Dec.{T, eqb, eqb→eq}
 use Rattle.spec_field.specs.Symbols.{polynomial}
 use Rattle.spec_range.specs.Fold.{fold, all}

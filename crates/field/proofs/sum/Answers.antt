@@ -1,6 +1,5 @@
 -- `field::sum` meets its contract.
 -- Assumes nothing.
-use borrow.Author.Rules.{rules}
 use Rattle.spec_field.proofs.Refusals.{answers_refused, answers_done}
 use Rattle.field.proofs.sum.Goals as goal
 

@@ -1,7 +1,6 @@
 -- `field::times_x` meets its contract. Assumes nothing.
 use mathlib.Core.Path.{ap, ap₂, ◌∙◌}
 use Prim.Native.Nat.{ℕ, ◌*◌, ◌/◌, ◌%◌, ◌^◌}
-use borrow.Author.Rules.{rules}
 use lib.Bits.{bit_xor}
 use Rattle.spec_field.specs.Symbols.{times_x}
 use Rattle.field.proofs.Masks.{double_fits}

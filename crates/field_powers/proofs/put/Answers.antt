@@ -6,8 +6,7 @@ use native.Mathlib.Omega.{arith}
 use lib.ListN.{length, set, length-set}
 use lib.Pow.{pow_pos}
 use Rattle.field_powers.proofs.Laws.{power_below}
-use Rattle.field_powers.proofs.Logging.{Logging, logging_none, logging_more, logging_end, round_le, power_fits}
-use borrow.Author.Rules.{rules}
+use Rattle.field_powers.proofs.Logging.{logging_none, logging_more, logging_end, round_le, power_fits}
 use Rattle.field_powers.specs.Powers.{powers_end}
 use Rattle.field_powers.proofs.put.Goals as goal
 

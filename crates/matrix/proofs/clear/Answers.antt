@@ -1,10 +1,9 @@
 -- `matrix::clear` meets its contract. The invariant: the entries below k are 0.
 -- Assumes nothing.
-use Prim.Native.Nat.{◌-◌, ◌≤◌}
 use mathlib.Core.Path.{◌≡◌, refl}
 use native.Mathlib.Omega.{arith}
 use lib.ListN.{length}
-use Rattle.spec_range.proofs.Loop.{Over, over_none, over_more, over_table}
+use Rattle.spec_range.proofs.Loop.{over_none, over_more, over_table}
 use borrow.Author.Rules.{rules}
 use Rattle.matrix.proofs.clear.Goals as goal
 

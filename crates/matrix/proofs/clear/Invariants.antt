@@ -1,11 +1,7 @@
 -- `matrix::clear` meets its contract. The invariant: the entries below k are 0.
 -- Assumes nothing.
 use Prim.Native.Nat.{◌-◌, ◌≤◌}
-use mathlib.Core.Path.{◌≡◌, refl}
-use native.Mathlib.Omega.{arith}
-use lib.ListN.{length}
-use Rattle.spec_range.proofs.Loop.{Over, over_none, over_more, over_table}
-use borrow.Author.Rules.{rules}
+use Rattle.spec_range.proofs.Loop.{Over}
 use Rattle.matrix.proofs.clear.Given as goal
 
 abbrev pub invariant-loop-k : goal.invariant-loop-k

@@ -6,8 +6,6 @@ use native.Mathlib.Omega.{arith}
 use borrow.Author.Tests.{ltb-true, ltb-false}
 use Rattle.matrix_terms.specs.Terms.{dual_of}
 use Rattle.matrix.proofs.Whole.{all_duals}
-use borrow.Author.Rules.{rules}
-use Rattle.matrix_scatter.proofs.fill.Reads as fill-reads'
 use Rattle.matrix.proofs.fill.Goals as goal
 
 pub fill-requires : goal.fill-requires

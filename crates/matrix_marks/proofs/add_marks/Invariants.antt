@@ -1,12 +1,8 @@
 -- `matrix_marks::add_marks` meets its contract. The invariant: the columns below j are added.
 -- Assumes nothing.
 use Prim.Native.Nat.{◌+◌, ◌-◌, ◌≤◌}
-use mathlib.Core.Path.{◌≡◌}
-use native.Mathlib.Nat.{le_refl}
-use native.Mathlib.Omega.{arith}
-use Rattle.spec_range.proofs.Loop.{Over, over_none, over_more, over_table}
+use Rattle.spec_range.proofs.Loop.{Over}
 use Rattle.word_array.specs.Stored.{place}
-use borrow.Author.Rules.{rules}
 use Rattle.matrix_marks.proofs.add_marks.Given as goal
 
 abbrev pub invariant-loop-j : goal.invariant-loop-j

@@ -1,9 +1,8 @@
 -- `matrix_marks::count_block` meets its contract. The invariant: the marks of the first i terms are added.
 -- Assumes nothing.
-use Prim.Native.Nat.{◌+◌, ◌-◌}
+use Prim.Native.Nat.{◌+◌}
 use native.Mathlib.Omega.{arith}
-use Rattle.matrix_marks.proofs.Marking.{Summing, summing_none, summing_addable, summing_more, summing_end}
-use borrow.Author.Rules.{rules}
+use Rattle.matrix_marks.proofs.Marking.{summing_none, summing_addable, summing_more, summing_end}
 use Rattle.matrix_marks.proofs.count_block.Goals as goal
 
 pub loop-i-init : goal.loop-i-init

@@ -1,9 +1,7 @@
 -- `matrix_marks::count_block` meets its contract. The invariant: the marks of the first i terms are added.
 -- Assumes nothing.
-use Prim.Native.Nat.{◌+◌, ◌-◌}
-use native.Mathlib.Omega.{arith}
-use Rattle.matrix_marks.proofs.Marking.{Summing, summing_none, summing_addable, summing_more, summing_end}
-use borrow.Author.Rules.{rules}
+use Prim.Native.Nat.{◌-◌}
+use Rattle.matrix_marks.proofs.Marking.{Summing}
 use Rattle.matrix_marks.proofs.count_block.Given as goal
 
 abbrev pub invariant-loop-i : goal.invariant-loop-i

@@ -1,13 +1,12 @@
 -- `matrix_marks::count_dual` meets its contract. The invariant: the rows below e are added to the counters.
 -- Assumes nothing.
 use mathlib.Core.Path.{◌≡◌, ◌∙◌}
-use Prim.Native.Nat.{◌+◌, ◌-◌, ◌*◌, ◌^◌, ◌≤◌}
+use Prim.Native.Nat.{◌+◌, ◌*◌, ◌^◌, ◌≤◌}
 use native.Mathlib.Omega.{arith}
 use lib.ListN.{length}
 use lib.Pow.{pow_pos}
-use Rattle.matrix_marks.specs.Marks.{marks_of, Summable}
-use Rattle.matrix_marks.proofs.Turning.{Raising, raising_none, raising_more, turned_markable, turned_summable, counters_in, turned_le, raising_end}
-use borrow.Author.Rules.{rules}
+use Rattle.matrix_marks.specs.Marks.{Summable}
+use Rattle.matrix_marks.proofs.Turning.{raising_none, raising_more, turned_markable, turned_summable, counters_in, turned_le, raising_end}
 use Rattle.matrix_marks.proofs.count_dual.Goals as goal
 
 pub overflow_sub-rows : goal.overflow_sub-rows

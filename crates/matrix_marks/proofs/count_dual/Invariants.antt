@@ -1,13 +1,8 @@
 -- `matrix_marks::count_dual` meets its contract. The invariant: the rows below e are added to the counters.
 -- Assumes nothing.
-use mathlib.Core.Path.{◌≡◌, ◌∙◌}
-use Prim.Native.Nat.{◌+◌, ◌-◌, ◌*◌, ◌^◌, ◌≤◌}
-use native.Mathlib.Omega.{arith}
-use lib.ListN.{length}
-use lib.Pow.{pow_pos}
-use Rattle.matrix_marks.specs.Marks.{marks_of, Summable}
-use Rattle.matrix_marks.proofs.Turning.{Raising, raising_none, raising_more, turned_markable, turned_summable, counters_in, turned_le, raising_end}
-use borrow.Author.Rules.{rules}
+use Prim.Native.Nat.{◌-◌, ◌*◌}
+use Rattle.matrix_marks.specs.Marks.{marks_of}
+use Rattle.matrix_marks.proofs.Turning.{Raising}
 use Rattle.matrix_marks.proofs.count_dual.Given as goal
 
 abbrev pub invariant-loop-e : goal.invariant-loop-e

@@ -1,17 +1,11 @@
 -- `matrix_marks::count_duals` meets its contract. The invariant: the dual words below l are counted, and the rooms are as long as before.
 -- Assumes nothing.
-use mathlib.Core.Path.{◌≡◌, refl, sym}
-use Prim.Native.Nat.{◌+◌, ◌-◌, ◌*◌, ◌≤◌}
-use native.Mathlib.Omega.{arith}
+use mathlib.Core.Path.{◌≡◌}
+use Prim.Native.Nat.{◌-◌, ◌≤◌}
 use lib.ListN.{length}
 use Rattle.sizes.specs.Blocks.{span, stride}
-use Rattle.sizes.proofs.Lengths.{blocks_high}
 use Rattle.word_table.specs.Multiples.{word_of}
-use Rattle.matrix_terms.proofs.Summing.{wide_fits, row_summands}
 use Rattle.matrix_marks.specs.Marks.{Tallied}
-use Rattle.matrix_marks.proofs.Tallying.{tallied_none, dual_turned, dual_tallied}
-use borrow.Author.Rules.{rules}
-use Rattle.matrix_terms.specs.Terms.{terms_at}
 use Rattle.matrix_marks.proofs.count_duals.Given as goal
 
 abbrev pub invariant-loop-l : goal.invariant-loop-l

@@ -1,13 +1,9 @@
 -- `matrix_marks::count_row` meets its contract. The invariant: the first b blocks are added.
 -- Assumes nothing.
 use mathlib.Core.Path.{◌≡◌}
-use Prim.Native.Nat.{◌+◌, ◌-◌, ◌*◌, ◌≤◌}
 use native.Mathlib.Nat.{le_trans, le_of_eq}
 use native.Mathlib.Omega.{arith}
-use Rattle.word_array.specs.Stored.{place}
-use Rattle.word_table.specs.Window.{Window}
 use Rattle.word_table.proofs.Window.{window_none}
-use Rattle.matrix_marks.specs.Marks.{marks_of}
 use Rattle.matrix_marks.proofs.Marking.{summable_block, block_added}
 use borrow.Author.Rules.{rules}
 use Rattle.matrix_marks.proofs.count_row.Goals as goal

@@ -1,7 +1,6 @@
 -- `matrix_marks::fill` meets its contract: rooms go by the length of a word.
 -- Assumes nothing.
 use native.Mathlib.Omega.{arith}
-use borrow.Author.Rules.{rules}
 use Rattle.matrix_marks.proofs.fill.Goals as goal
 
 pub fill_long-requires : goal.fill_long-requires

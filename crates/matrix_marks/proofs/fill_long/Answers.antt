@@ -6,7 +6,6 @@ use native.Mathlib.Omega.{arith}
 use Rattle.sizes.proofs.Lengths.{blocks_high}
 use lib.Pow.{pow_mono}
 use Rattle.matrix_marks.proofs.Tallying.{table_fits, rooms}
-use borrow.Author.Rules.{rules}
 use Rattle.matrix_marks.proofs.fill_long.Goals as goal
 
 pub fill_in-requires : goal.fill_in-requires

@@ -1,12 +1,8 @@
 -- `matrix_marks::gather_row` meets its contract. The invariant: the columns below j are copied.
 -- Assumes nothing.
-use mathlib.Core.Path.{◌≡◌, refl}
 use Prim.Native.Nat.{◌+◌, ◌-◌, ◌≤◌}
-use native.Mathlib.Omega.{arith}
 use Rattle.word_array.specs.Stored.{place}
 use Rattle.word_table.specs.Window.{Window}
-use Rattle.word_table.proofs.Window.{window_none, window_more}
-use borrow.Author.Rules.{rules}
 use Rattle.matrix_marks.proofs.gather_row.Given as goal
 
 abbrev pub invariant-loop-j : goal.invariant-loop-j

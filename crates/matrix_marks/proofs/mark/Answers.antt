@@ -1,12 +1,10 @@
 -- `matrix_marks::mark` meets its contract. The invariant: the first b blocks are marked.
 -- Assumes nothing.
 use mathlib.Core.Path.{◌≡◌, refl, ap, ◌∙◌}
-use Prim.Native.Nat.{ℕ, ◌-◌, ◌*◌, ◌≤◌}
+use Prim.Native.Nat.{ℕ}
 use native.Mathlib.Omega.{arith}
 use lib.Dec.{eqb}
 use Rattle.spec_range.specs.Fold.{indicator}
-use Rattle.word_array.specs.Stored.{place}
-use Rattle.word_table.specs.Window.{Window}
 use Rattle.word_table.proofs.Window.{window_none, window_join, read_table}
 use borrow.Author.Rules.{rules}
 use Rattle.matrix_marks.proofs.mark.Goals as goal

@@ -1,11 +1,9 @@
 -- `matrix_marks::mark_rows` meets its contract. The invariant: the rows below e are marked.
 -- Assumes nothing.
-use Prim.Native.Nat.{◌+◌, ◌-◌, ◌*◌, ◌≤◌}
+use Prim.Native.Nat.{◌+◌, ◌*◌, ◌≤◌}
 use native.Mathlib.Omega.{arith}
 use lib.ListN.{length}
-use Rattle.matrix_marks.specs.Marks.{powers_in}
-use Rattle.matrix_marks.proofs.Marking.{Marking, marking_none, row_within, marking-more, marking_end}
-use borrow.Author.Rules.{rules}
+use Rattle.matrix_marks.proofs.Marking.{marking_none, row_within, marking-more, marking_end}
 use Rattle.matrix_marks.proofs.mark_rows.Goals as goal
 
 pub loop-e-init : goal.loop-e-init

@@ -1,11 +1,8 @@
 -- `matrix_marks::mark_rows` meets its contract. The invariant: the rows below e are marked.
 -- Assumes nothing.
-use Prim.Native.Nat.{◌+◌, ◌-◌, ◌*◌, ◌≤◌}
-use native.Mathlib.Omega.{arith}
-use lib.ListN.{length}
+use Prim.Native.Nat.{◌-◌, ◌*◌}
 use Rattle.matrix_marks.specs.Marks.{powers_in}
-use Rattle.matrix_marks.proofs.Marking.{Marking, marking_none, row_within, marking-more, marking_end}
-use borrow.Author.Rules.{rules}
+use Rattle.matrix_marks.proofs.Marking.{Marking}
 use Rattle.matrix_marks.proofs.mark_rows.Given as goal
 
 abbrev pub invariant-loop-e : goal.invariant-loop-e

@@ -1,14 +1,10 @@
 -- `matrix_marks::marked` meets its contract. The invariant: the places below j are marked.
 -- Assumes nothing.
 use Prim.Native.Nat.{◌-◌, ◌≤◌}
-use native.Mathlib.Omega.{arith}
 use lib.Dec.{eqb}
 use Rattle.spec_range.specs.Fold.{indicator}
-use Rattle.spec_range.proofs.Loop.{Held, held_none, held_more}
+use Rattle.spec_range.proofs.Loop.{Held}
 use Rattle.word_array.specs.Stored.{place}
-use Rattle.word_table.proofs.Window.{held_table}
-use Rattle.matrix_marks.proofs.Marking.{byte}
-use borrow.Author.Rules.{rules}
 use Rattle.matrix_marks.proofs.marked.Given as goal
 
 abbrev pub invariant-loop-j : goal.invariant-loop-j

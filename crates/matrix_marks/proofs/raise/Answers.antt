@@ -1,13 +1,12 @@
 -- `matrix_marks::raise` meets its contract. The invariant: the columns below j are added.
 -- Assumes nothing.
-use Prim.Native.Nat.{ℕ, ◌+◌, ◌-◌, ◌≤◌}
+use Prim.Native.Nat.{ℕ, ◌+◌}
 use mathlib.Core.Path.{◌≡◌, ap}
 use native.Mathlib.Nat.{le_refl, le_trans, le_of_eq}
 use native.Mathlib.Omega.{arith}
 use mir.Syntax.{w8}
 use mir.Val.{Fits}
 use Rattle.word_array.specs.Stored.{place}
-use Rattle.word_table.specs.Window.{Window}
 use Rattle.word_table.proofs.Window.{window_none, window_more}
 use Rattle.matrix_marks.proofs.Marking.{sum_fits}
 use borrow.Author.Rules.{rules}

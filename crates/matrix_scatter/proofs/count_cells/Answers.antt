@@ -1,12 +1,8 @@
 -- `matrix_scatter::count_cells` meets its contract. The invariant: the offsets of the places below j are counted.
 -- Assumes nothing.
-use mathlib.Core.Path.{◌≡◌}
-use Prim.Native.Nat.{◌+◌, ◌-◌, ◌%◌}
 use native.Mathlib.Omega.{arith}
-use Rattle.matrix_terms.proofs.Raised.{Adding, adding_none, adding_long, adding_end}
-use Rattle.matrix_scatter.specs.Scatter.{cell_adds}
+use Rattle.matrix_terms.proofs.Raised.{adding_none, adding_long, adding_end}
 use Rattle.matrix_scatter.proofs.Cells.{eight_within, eight_more}
-use borrow.Author.Rules.{rules}
 use Rattle.matrix_scatter.proofs.count_cells.Goals as goal
 
 pub loop-j-init : goal.loop-j-init

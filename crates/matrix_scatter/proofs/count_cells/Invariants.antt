@@ -2,11 +2,8 @@
 -- Assumes nothing.
 use mathlib.Core.Path.{◌≡◌}
 use Prim.Native.Nat.{◌+◌, ◌-◌, ◌%◌}
-use native.Mathlib.Omega.{arith}
-use Rattle.matrix_terms.proofs.Raised.{Adding, adding_none, adding_long, adding_end}
+use Rattle.matrix_terms.proofs.Raised.{Adding}
 use Rattle.matrix_scatter.specs.Scatter.{cell_adds}
-use Rattle.matrix_scatter.proofs.Cells.{eight_within, eight_more}
-use borrow.Author.Rules.{rules}
 use Rattle.matrix_scatter.proofs.count_cells.Given as goal
 
 abbrev pub invariant-loop-j : goal.invariant-loop-j

@@ -1,16 +1,10 @@
 -- `matrix_scatter::count_duals` meets its contract. The invariant: the dual words below l are counted.
 -- Assumes nothing.
-use mathlib.Core.Path.{◌≡◌, refl}
+use mathlib.Core.Path.{◌≡◌}
 use Prim.Native.Nat.{◌-◌}
-use native.Mathlib.Nat.{zero-add}
-use native.Mathlib.Omega.{arith}
 use lib.ListN.{length}
 use Rattle.sizes.specs.Blocks.{stride}
-use Rattle.sizes.proofs.Lengths.{blocks_high}
-use Rattle.matrix_terms.proofs.Raised.{adding_none, adding_long}
-use Rattle.matrix_terms.proofs.Received.{table_le, word_read}
-use Rattle.matrix_scatter.proofs.Duals.{logged, CountedTo, dual-started, dual-countable, dual-more, counter-end, counters-most}
-use borrow.Author.Rules.{rules}
+use Rattle.matrix_scatter.proofs.Duals.{CountedTo}
 use Rattle.matrix_scatter.proofs.count_duals.Given as goal
 
 abbrev pub invariant-loop-l : goal.invariant-loop-l

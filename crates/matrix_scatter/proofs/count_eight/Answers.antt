@@ -3,7 +3,6 @@
 use Prim.Native.Nat.{◌+◌}
 use native.Mathlib.Omega.{arith}
 use Rattle.matrix_scatter.proofs.Cells.{low_four, high-four, eight-end}
-use borrow.Author.Rules.{rules}
 use Rattle.matrix_scatter.proofs.count_eight.Goals as goal
 
 pub overflow_cast-a0 : goal.overflow_cast-a0

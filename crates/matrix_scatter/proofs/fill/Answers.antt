@@ -3,7 +3,6 @@
 use native.Mathlib.Omega.{arith}
 use Rattle.matrix_terms.proofs.Received.{order_low}
 use Rattle.matrix_scatter.proofs.Whole.{rows_are, rows_fit}
-use borrow.Author.Rules.{rules}
 use Rattle.matrix_scatter.proofs.fill.Goals as goal
 
 pub overflow_sub-rows : goal.overflow_sub-rows

@@ -5,7 +5,6 @@ use native.Mathlib.Omega.{arith}
 use Rattle.matrix_terms.proofs.Whole.{all_le, column_room, filled}
 use Rattle.matrix_scatter.proofs.Duals.{logged}
 use Rattle.matrix_scatter.proofs.Whole.{scattering, rows_filled}
-use borrow.Author.Rules.{rules}
 use Rattle.matrix_scatter.proofs.fill_by.Goals as goal
 
 pub count_duals-requires : goal.count_duals-requires

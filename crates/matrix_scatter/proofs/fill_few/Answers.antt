@@ -1,7 +1,6 @@
 -- `matrix_scatter::fill_few` meets its contract.
 -- Assumes nothing.
 use Rattle.matrix_scatter.proofs.Whole.{cleared}
-use borrow.Author.Rules.{rules}
 use Rattle.matrix_scatter.proofs.fill_few.Goals as goal
 
 pub fill_by-requires : goal.fill_by-requires

@@ -1,11 +1,9 @@
 -- `matrix_scatter::gather` meets its contract. The invariant: the rows from 1 to i - 1 are gathered.
 -- Assumes nothing.
-use mathlib.Core.Path.{◌≡◌, refl}
-use Prim.Native.Nat.{◌-◌, ◌^◌}
+use mathlib.Core.Path.{refl}
 use native.Mathlib.Omega.{arith}
 use Rattle.matrix_terms.proofs.Received.{order_low, order_le}
-use Rattle.matrix_scatter.proofs.Gathering.{Gathering, log-small, row_in, low-in, high-in, gathering_none, gathering_more, gathering_end}
-use borrow.Author.Rules.{rules}
+use Rattle.matrix_scatter.proofs.Gathering.{log-small, row_in, low-in, high-in, gathering_none, gathering_more, gathering_end}
 use Rattle.matrix_scatter.proofs.gather.Goals as goal
 
 pub loop-i-init : goal.loop-i-init

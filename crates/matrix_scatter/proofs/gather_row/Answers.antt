@@ -1,10 +1,8 @@
 -- `matrix_scatter::gather_row` meets its contract. The invariant: the entries of the columns below j are written.
 -- Assumes nothing.
 use mathlib.Core.Path.{refl}
-use Prim.Native.Nat.{◌+◌, ◌-◌, ◌≤◌}
+use Prim.Native.Nat.{◌+◌}
 use native.Mathlib.Omega.{arith}
-use Rattle.word_array.specs.Stored.{place}
-use Rattle.word_table.specs.Window.{Window}
 use Rattle.word_table.proofs.Window.{window_none, window_more}
 use Rattle.matrix_scatter.proofs.Gathering.{row_gathered}
 use borrow.Author.Rules.{rules}

@@ -1,10 +1,8 @@
 -- `matrix_scatter::offsets` meets its contract. The invariant: the offsets of the places below j are written, twice over.
 -- Assumes nothing.
-use Prim.Native.Nat.{◌-◌}
 use native.Mathlib.Omega.{arith}
 use lib.ListN.{length-set}
-use Rattle.matrix_scatter.proofs.Offsetting.{Doubling, doubling_none, doubling_more, doubling_end}
-use borrow.Author.Rules.{rules}
+use Rattle.matrix_scatter.proofs.Offsetting.{doubling_none, doubling_more, doubling_end}
 use Rattle.matrix_scatter.proofs.offsets.Goals as goal
 
 pub loop-j-init : goal.loop-j-init

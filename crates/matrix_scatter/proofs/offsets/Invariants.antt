@@ -1,10 +1,7 @@
 -- `matrix_scatter::offsets` meets its contract. The invariant: the offsets of the places below j are written, twice over.
 -- Assumes nothing.
 use Prim.Native.Nat.{◌-◌}
-use native.Mathlib.Omega.{arith}
-use lib.ListN.{length-set}
-use Rattle.matrix_scatter.proofs.Offsetting.{Doubling, doubling_none, doubling_more, doubling_end}
-use borrow.Author.Rules.{rules}
+use Rattle.matrix_scatter.proofs.Offsetting.{Doubling}
 use Rattle.matrix_scatter.proofs.offsets.Given as goal
 
 abbrev pub invariant-loop-j : goal.invariant-loop-j

@@ -2,7 +2,6 @@
 -- Assumes nothing.
 use native.Mathlib.Omega.{arith}
 use Rattle.matrix_terms.proofs.Raised.{raised_one}
-use borrow.Author.Rules.{rules}
 use Rattle.matrix_scatter.proofs.raise.Goals as goal
 
 pub overflow_add-counts : goal.overflow_add-counts

@@ -3,7 +3,6 @@
 use Prim.Native.Nat.{◌+◌}
 use native.Mathlib.Omega.{arith}
 use Rattle.matrix_scatter.proofs.Cells.{up_one, up_more, up_in, up_most, four_added}
-use borrow.Author.Rules.{rules}
 use Rattle.matrix_scatter.proofs.raise_four.Goals as goal
 
 pub raise-requires : goal.raise-requires

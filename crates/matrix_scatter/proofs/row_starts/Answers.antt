@@ -1,11 +1,11 @@
 -- `matrix_scatter::row_starts` meets its contract. The invariant: the starts of the symbols below c are stored.
 -- Assumes nothing.
 use mathlib.Core.Path.{◌≡◌, refl}
-use Prim.Native.Nat.{◌+◌, ◌-◌, ◌^◌, ◌≤◌}
+use Prim.Native.Nat.{◌^◌}
 use native.Mathlib.Omega.{arith}
-use Rattle.spec_range.proofs.Loop.{Held, held_more}
+use Rattle.spec_range.proofs.Loop.{held_more}
 use Rattle.matrix_terms.proofs.Received.{order_low, order_le}
-use Rattle.matrix_scatter.proofs.Rows.{start_of, start_le, first_le, starts_first, log_start, starts_end}
+use Rattle.matrix_scatter.proofs.Rows.{start_le, first_le, starts_first, log_start, starts_end}
 use borrow.Author.Rules.{rules}
 use Rattle.matrix_scatter.proofs.row_starts.Goals as goal
 

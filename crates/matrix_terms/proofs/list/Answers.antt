@@ -1,11 +1,8 @@
 -- `matrix_terms::list` meets its contract. The invariant: the dual words below l are listed.
 -- Assumes nothing.
-use Prim.Native.Nat.{◌-◌}
 use native.Mathlib.Omega.{arith}
-use Rattle.sizes.specs.Blocks.{stride}
 use Rattle.sizes.proofs.Lengths.{blocks_fit}
-use Rattle.matrix_terms.proofs.Rows.{ListedTo, listed_none, dual_in, row_in, listed_more, last-le, listed-long, listed-end}
-use borrow.Author.Rules.{rules}
+use Rattle.matrix_terms.proofs.Rows.{listed_none, dual_in, row_in, listed_more, last-le, listed-long, listed-end}
 use Rattle.matrix_terms.proofs.list.Goals as goal
 
 pub put-requires : goal.put-requires

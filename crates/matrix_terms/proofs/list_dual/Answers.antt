@@ -1,7 +1,7 @@
 -- `matrix_terms::list_dual` meets its contract. The invariant: the terms of the nonzero places below h are written.
 -- Assumes nothing.
 use mathlib.Core.Path.{◌≡◌, ap, subst}
-use Prim.Native.Nat.{ℕ, ◌+◌, ◌-◌, ◌*◌, ◌≤◌, ◌<◌}
+use Prim.Native.Nat.{ℕ, ◌+◌, ◌*◌, ◌≤◌, ◌<◌}
 use native.Mathlib.Omega.{arith}
 use lib.ListN.{length}
 use Rattle.sizes.specs.Blocks.{span}
@@ -10,7 +10,7 @@ use Rattle.word_array.specs.Stored.{place}
 use Rattle.spec_book.specs.Layout.{width, dual_at}
 use Rattle.matrix_terms.specs.Listed.{DualListed}
 use Rattle.matrix_terms.proofs.Listing.{listing_fits}
-use Rattle.matrix_terms.proofs.Rows.{Written, written_none, written_more, written-end, term_in, dual_small, term-small, log-kept}
+use Rattle.matrix_terms.proofs.Rows.{written_none, written_more, written-end, term_in, dual_small, term-small, log-kept}
 use borrow.Author.Rules.{rules}
 use Rattle.matrix_terms.specs.Terms.{terms_at}
 use Rattle.matrix_terms.proofs.list_dual.Goals as goal

@@ -1,12 +1,11 @@
 -- `matrix_terms::product` meets its contract. The invariant: the first b blocks have their sums.
 -- Assumes nothing.
 use mathlib.Core.Path.{refl, sym, ap, ◌∙◌, subst}
-use Prim.Native.Nat.{ℕ, ◌+◌, ◌-◌, ◌*◌, ◌^◌, ◌≤◌}
+use Prim.Native.Nat.{ℕ, ◌+◌, ◌*◌, ◌^◌, ◌≤◌}
 use native.Mathlib.Omega.{arith}
 use Rattle.sizes.proofs.Lengths.{shift_is}
-use Rattle.word_table.specs.Window.{Window}
 use Rattle.word_table.proofs.Window.{window_none, window_join, read_table}
-use Rattle.matrix_terms.specs.Sums.{terms_sum, Summands}
+use Rattle.matrix_terms.specs.Sums.{Summands}
 use Rattle.matrix_terms.proofs.Summing.{shift_high, row_summands, row_product}
 use borrow.Author.Rules.{rules}
 use Rattle.matrix_terms.specs.Terms.{terms_at}

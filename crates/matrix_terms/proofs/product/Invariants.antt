@@ -1,15 +1,8 @@
 -- `matrix_terms::product` meets its contract. The invariant: the first b blocks have their sums.
 -- Assumes nothing.
-use mathlib.Core.Path.{refl, sym, ap, ◌∙◌, subst}
-use Prim.Native.Nat.{ℕ, ◌+◌, ◌-◌, ◌*◌, ◌^◌, ◌≤◌}
-use native.Mathlib.Omega.{arith}
-use Rattle.sizes.proofs.Lengths.{shift_is}
+use Prim.Native.Nat.{◌-◌, ◌*◌, ◌≤◌}
 use Rattle.word_table.specs.Window.{Window}
-use Rattle.word_table.proofs.Window.{window_none, window_join, read_table}
-use Rattle.matrix_terms.specs.Sums.{terms_sum, Summands}
-use Rattle.matrix_terms.proofs.Summing.{shift_high, row_summands, row_product}
-use borrow.Author.Rules.{rules}
-use Rattle.matrix_terms.specs.Terms.{terms_at}
+use Rattle.matrix_terms.specs.Sums.{terms_sum}
 use Rattle.matrix_terms.proofs.product.Given as goal
 
 abbrev pub invariant-loop-b : goal.invariant-loop-b

@@ -1,10 +1,7 @@
 -- `matrix_terms::product_block` meets its contract. The invariant: the table's places that the first i terms tell are summed.
 -- Assumes nothing.
-use Prim.Native.Nat.{◌-◌, ◌*◌, ◌^◌, ◌≤◌}
-use native.Mathlib.Omega.{arith}
-use lib.Pow.{pow_mono}
-use Rattle.matrix_terms.proofs.Summing.{wide_fits, Summing, summing_none, summing_more, summing_end, start_is, log_in, turn_in, start_in}
-use borrow.Author.Rules.{rules}
+use Prim.Native.Nat.{◌-◌, ◌*◌}
+use Rattle.matrix_terms.proofs.Summing.{Summing}
 use Rattle.matrix_terms.proofs.product_block.Given as goal
 
 abbrev pub invariant-loop-i : goal.invariant-loop-i

@@ -1,10 +1,8 @@
 -- `matrix_terms::put_row` meets its contract. The invariant: the places below j are written.
 -- Assumes nothing.
-use Prim.Native.Nat.{◌-◌, ◌≤◌}
 use mathlib.Core.Path.{◌≡◌, refl}
 use native.Mathlib.Omega.{arith}
-use Rattle.spec_range.proofs.Loop.{Over, over_none, over_more}
-use Rattle.word_array.specs.Stored.{place}
+use Rattle.spec_range.proofs.Loop.{over_none, over_more}
 use Rattle.matrix_terms.proofs.RowLeft.{over_front}
 use borrow.Author.Rules.{rules}
 use Rattle.matrix_terms.proofs.put_row.Goals as goal

@@ -2,7 +2,6 @@
 -- Assumes nothing.
 use mathlib.Core.Path.{refl}
 use Rattle.matrix_terms.proofs.Rows.{still_listed}
-use borrow.Author.Rules.{rules}
 use Rattle.matrix_terms.proofs.ready.Goals as goal
 
 pub returns-else-terms-eq0 : goal.returns-else-terms-eq0

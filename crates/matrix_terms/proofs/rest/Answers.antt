@@ -4,8 +4,7 @@ use mathlib.Core.Path.{◌≡◌}
 use Prim.Native.Nat.{◌+◌, ◌-◌, ◌^◌, ◌≤◌}
 use native.Mathlib.Omega.{arith}
 use lib.Pow.{pow_pos}
-use Rattle.matrix_terms.proofs.RowLeft.{RowsLeft, rows_left_none, row_within, rows-left-cover, rows-left-more, rows_left_end}
-use borrow.Author.Rules.{rules}
+use Rattle.matrix_terms.proofs.RowLeft.{rows_left_none, row_within, rows-left-cover, rows-left-more, rows_left_end}
 use Rattle.matrix_terms.proofs.rest.Goals as goal
 
 pub order-requires : goal.order-requires

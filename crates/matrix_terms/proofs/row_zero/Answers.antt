@@ -1,7 +1,6 @@
 -- `matrix_terms::row_zero` meets its contract.
 -- Assumes nothing.
 use Rattle.matrix_terms.proofs.RowLeft.{row_zero_in, row_zero_put}
-use borrow.Author.Rules.{rules}
 use Rattle.matrix_terms.proofs.row_zero.Goals as goal
 
 pub put_row-requires : goal.put_row-requires

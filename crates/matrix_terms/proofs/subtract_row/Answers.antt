@@ -1,12 +1,9 @@
 -- `matrix_terms::subtract_row` meets its contract. The invariant: the places below j are subtracted.
 -- Assumes nothing.
-use Prim.Native.Nat.{◌+◌, ◌-◌}
 use native.Mathlib.Omega.{arith}
 use native.Mathlib.Nat.{le_refl}
-use Rattle.spec_range.proofs.Loop.{Over, over_none, over_more}
-use Rattle.word_array.specs.Stored.{place}
+use Rattle.spec_range.proofs.Loop.{over_none, over_more}
 use Rattle.matrix_terms.proofs.RowLeft.{next_covered, subtracted}
-use borrow.Author.Rules.{rules}
 use Rattle.matrix_terms.proofs.subtract_row.Goals as goal
 
 pub loop-j-init : goal.loop-j-init

@@ -1,7 +1,6 @@
 -- `refusals::refusal` meets its contract.
 -- Assumes nothing.
 use mathlib.Core.Path.{◌∙◌, sym}
-use borrow.Author.Rules.{rules}
 use borrow.Author.Tests.{not-true, not-false}
 use Rattle.spec_book.specs.Conditions.{input_refusal}
 use Rattle.std.proofs.lemmas.Bool.{not_from_true, not_from_false}

@@ -2,12 +2,9 @@
 -- Assumes nothing.
 use mathlib.Core.Path.{◌≡◌, refl, sym}
 use mathlib.Core.Bool.{true, ◌&&◌}
-use Prim.Native.Nat.{◌-◌, ◌≤◌}
 use native.Mathlib.Omega.{arith}
 use borrow.Author.Rules.{rules}
-use lib.Dec.{ltb}
-use lib.ListN.{length, get_or}
-use Rattle.spec_range.specs.Fold.{all}
+use lib.ListN.{length}
 use Rattle.spec_range.proofs.Loop.{fold_none, fold_step}
 use Rattle.spec_book.specs.Conditions.{input_ok}
 use Rattle.refusals.proofs.symbols_ok.Goals as goal

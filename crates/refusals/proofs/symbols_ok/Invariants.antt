@@ -1,15 +1,10 @@
 -- `refusals::symbols_ok` meets its contract. The invariant: `ok` tells whether the symbols below place j are below q.
 -- Assumes nothing.
-use mathlib.Core.Path.{◌≡◌, refl, sym}
-use mathlib.Core.Bool.{true, ◌&&◌}
+use mathlib.Core.Path.{◌≡◌}
 use Prim.Native.Nat.{◌-◌, ◌≤◌}
-use native.Mathlib.Omega.{arith}
-use borrow.Author.Rules.{rules}
 use lib.Dec.{ltb}
 use lib.ListN.{length, get_or}
 use Rattle.spec_range.specs.Fold.{all}
-use Rattle.spec_range.proofs.Loop.{fold_none, fold_step}
-use Rattle.spec_book.specs.Conditions.{input_ok}
 use Rattle.refusals.proofs.symbols_ok.Given as goal
 
 abbrev pub invariant-loop-j : goal.invariant-loop-j

@@ -3,7 +3,6 @@
 use mathlib.Core.Path.{sym, ◌∙◌}
 use native.Mathlib.Nat.{mul-le-mul}
 use native.Mathlib.Omega.{arith}
-use borrow.Author.Rules.{rules}
 use Rattle.spec_range.proofs.Tests.{true_test}
 use Rattle.spec_book.proofs.Inputs.{words_high}
 use Rattle.refusals.proofs.words_refusal.Goals as goal

@@ -2,12 +2,9 @@
 -- Assumes nothing.
 use mathlib.Core.Path.{sym, ap, ◌∙◌}
 use mathlib.Core.Bool.{not}
-use Prim.Native.Nat.{◌-◌}
 use native.Mathlib.Omega.{arith}
-use Rattle.spec_range.proofs.Loop.{Passing, passing_none, passing_more, passing_fails, passing_end}
-use Rattle.sizes.specs.Blocks.{stride}
+use Rattle.spec_range.proofs.Loop.{passing_none, passing_more, passing_fails, passing_end}
 use Rattle.sizes.proofs.Lengths.{blocks_high}
-use Rattle.word_alike.specs.Compared.{turn_ok}
 use Rattle.word_alike.proofs.Comparing.{row_fits, alike_compared}
 use borrow.Author.Rules.{rules}
 use Rattle.word_alike.proofs.alike.Goals as goal

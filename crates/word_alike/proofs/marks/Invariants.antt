@@ -1,14 +1,10 @@
 -- `word_alike::marks` meets its contract. The invariant: the marks below place j are made.
 -- Assumes nothing.
-use mathlib.Core.Path.{ap}
-use Prim.Native.Nat.{ℕ, ◌+◌, ◌-◌, ◌≤◌}
-use native.Mathlib.Omega.{arith}
+use Prim.Native.Nat.{◌+◌, ◌-◌, ◌≤◌}
 use lib.Bits.{bit_and}
-use Rattle.spec_range.proofs.Loop.{Held, held_none, held_more}
+use Rattle.spec_range.proofs.Loop.{Held}
 use Rattle.word_array.specs.Stored.{place}
-use Rattle.word_table.proofs.Window.{held_table}
 use Rattle.word_alike.specs.Signature.{mark_at}
-use borrow.Author.Rules.{rules}
 use Rattle.word_alike.proofs.marks.Given as goal
 
 abbrev pub invariant-loop-j : goal.invariant-loop-j

@@ -1,11 +1,10 @@
 -- `word_alike::squares` meets its contract. The invariant: `sum` is that of the squares below place j.
 -- Assumes nothing.
 use mathlib.Core.Path.{◌≡◌}
-use Prim.Native.Nat.{◌-◌, ◌≤◌}
 use native.Mathlib.Omega.{arith}
 use mir.Facts.{Fits-widen}
 use Rattle.word_array.specs.Stored.{place}
-use Rattle.word_alike.proofs.Signing.{SquaresTo, squares_none, squares_more, square_high}
+use Rattle.word_alike.proofs.Signing.{squares_none, squares_more, square_high}
 use borrow.Author.Rules.{rules}
 use Rattle.word_alike.proofs.squares.Goals as goal
 

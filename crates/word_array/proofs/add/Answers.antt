@@ -1,11 +1,8 @@
 -- `word_array::add` meets its contract. The invariant: the places below j hold the sum.
 -- Assumes nothing.
-use Prim.Native.Nat.{◌-◌, ◌≤◌}
 use mathlib.Core.Path.{refl, ◌∙◌}
 use native.Mathlib.Omega.{arith}
-use lib.Bits.{bit_xor}
-use Rattle.spec_range.proofs.Loop.{Held, held_more}
-use Rattle.word_array.specs.Stored.{place}
+use Rattle.spec_range.proofs.Loop.{held_more}
 use Rattle.word_array.proofs.Filled.{held_end, held_front}
 use Rattle.word_array.proofs.Eights.{front_sum}
 use Rattle.word_array.proofs.Plus.{padded-plus}

@@ -1,12 +1,10 @@
 -- `word_array::add_eights` meets its contract. The invariant: the places of the first i eights hold the sum.
 -- Assumes nothing.
-use Prim.Native.Nat.{◌-◌, ◌*◌, ◌≤◌}
+use Prim.Native.Nat.{◌*◌}
 use mathlib.Core.Path.{◌≡◌, refl}
 use native.Mathlib.Omega.{arith}
-use lib.Bits.{bit_xor}
 use lib.ListN.{length}
-use Rattle.spec_range.proofs.Loop.{Over, over_none, over_table}
-use Rattle.word_array.specs.Stored.{place}
+use Rattle.spec_range.proofs.Loop.{over_none, over_table}
 use Rattle.word_array.proofs.Filled.{over_part}
 use Rattle.word_array.proofs.Eights.{part-sum}
 use borrow.Author.Rules.{rules}

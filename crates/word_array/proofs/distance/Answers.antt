@@ -1,13 +1,9 @@
 -- `word_array::distance` meets its contract. The invariant: `count` is the number of places below j where the words differ.
 -- Assumes nothing.
-use Prim.Native.Nat.{◌-◌}
 use native.Mathlib.Omega.{arith}
-use lib.Dec.{eqb}
-use mathlib.Core.Bool.{not}
 use borrow.Author.Rules.{rules}
 use Rattle.spec_word.specs.Word.{distance}
-use Rattle.word_array.specs.Stored.{place}
-use Rattle.word_array.proofs.Counted.{Counted, counted_none, counted_more, counted-byte, counted_end}
+use Rattle.word_array.proofs.Counted.{counted_none, counted_more, counted-byte, counted_end}
 use Rattle.word_array.proofs.distance.Goals as goal
 
 pub loop-j-init : goal.loop-j-init

@@ -2,7 +2,7 @@
 -- Assumes nothing.
 use mathlib.Core.Path.{ap, ◌∙◌}
 use mathlib.Core.Bool.{true, ◌&&◌}
-use Prim.Native.Nat.{ℕ, ◌-◌}
+use Prim.Native.Nat.{ℕ}
 use native.Mathlib.Omega.{arith}
 use lib.Dec.{eqb}
 use Rattle.spec_range.proofs.Tests.{not_not}
@@ -11,7 +11,7 @@ use Rattle.spec_range.proofs.Count.{none_counted}
 use Rattle.spec_word.specs.Word.{nonzero}
 use Rattle.spec_word.specs.Division.{all_zero}
 use Rattle.word_array.specs.Stored.{place}
-use Rattle.word_array.proofs.Counted.{Counted, counted_none, counted_more, counted-byte, counted_end}
+use Rattle.word_array.proofs.Counted.{counted_none, counted_more, counted-byte, counted_end}
 use borrow.Author.Rules.{rules}
 use Rattle.word_array.proofs.is_zero.Goals as goal
 

@@ -1,11 +1,9 @@
 -- `word_array::store` meets its contract. The invariant: the places below j are the word's.
 -- Assumes nothing.
-use Prim.Native.Nat.{◌-◌, ◌≤◌}
 use mathlib.Core.Path.{◌≡◌, refl}
 use native.Mathlib.Omega.{arith}
 use lib.ListN.{length}
-use Rattle.spec_range.proofs.Loop.{Over, over_none, over_more, over_table}
-use Rattle.word_array.specs.Stored.{place}
+use Rattle.spec_range.proofs.Loop.{over_none, over_more, over_table}
 use borrow.Author.Rules.{rules}
 use Rattle.word_array.proofs.store.Goals as goal
 

@@ -1,7 +1,6 @@
 -- `word_divide::add_block_at` meets its contract.
 -- Assumes nothing.
 use Rattle.word_divide.proofs.Dividing.{added_written}
-use borrow.Author.Rules.{rules}
 use Rattle.word_divide.proofs.add_block_at.Goals as goal
 
 pub returns : goal.returns

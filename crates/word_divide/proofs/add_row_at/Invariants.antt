@@ -1,11 +1,7 @@
 -- `word_divide::add_row_at` meets its contract. The invariant: b blocks are added.
 -- Assumes nothing.
 use Prim.Native.Nat.{◌-◌, ◌*◌, ◌≤◌}
-use mathlib.Core.Path.{◌≡◌, refl}
-use native.Mathlib.Omega.{arith}
 use Rattle.word_divide.specs.Window.{AddedAt}
-use Rattle.word_divide.proofs.Dividing.{added_none, added_join}
-use borrow.Author.Rules.{rules}
 use Rattle.word_divide.proofs.add_row_at.Given as goal
 
 abbrev pub invariant-loop-b : goal.invariant-loop-b

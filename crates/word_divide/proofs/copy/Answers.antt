@@ -1,10 +1,8 @@
 -- `word_divide::copy` meets its contract. The invariant: the places below j are the word's.
 -- Assumes nothing.
-use Prim.Native.Nat.{◌-◌, ◌≤◌}
 use mathlib.Core.Path.{◌≡◌, refl}
 use native.Mathlib.Omega.{arith}
-use Rattle.spec_range.proofs.Loop.{Over, over_none, over_more}
-use Rattle.word_array.specs.Stored.{place}
+use Rattle.spec_range.proofs.Loop.{over_none, over_more}
 use Rattle.word_table.proofs.Window.{over_window}
 use borrow.Author.Rules.{rules}
 use Rattle.word_divide.proofs.copy.Goals as goal

@@ -4,8 +4,7 @@
 use Prim.Native.Nat.{◌+◌, ◌*◌, ◌≤◌}
 use native.Mathlib.Omega.{arith}
 use lib.ListN.{length}
-use Rattle.sizes.specs.Blocks.{stride}
-use Rattle.word_divide.proofs.Dividing.{Dividing, dividing_start, dividing-more, dividing-end, row_within}
+use Rattle.word_divide.proofs.Dividing.{dividing_start, dividing-more, dividing-end, row_within}
 use borrow.Author.Rules.{rules}
 use Rattle.word_divide.proofs.divide_in.Goals as goal
 

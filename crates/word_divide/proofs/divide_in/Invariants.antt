@@ -1,12 +1,8 @@
 -- `word_divide::divide_in` meets its contract. The invariant: the remainder of the coefficients from place i on stands from place i on, and the quotient's
 -- places from i on are written.
 -- Assumes nothing.
-use Prim.Native.Nat.{◌+◌, ◌*◌, ◌≤◌}
-use native.Mathlib.Omega.{arith}
-use lib.ListN.{length}
 use Rattle.sizes.specs.Blocks.{stride}
-use Rattle.word_divide.proofs.Dividing.{Dividing, dividing_start, dividing-more, dividing-end, row_within}
-use borrow.Author.Rules.{rules}
+use Rattle.word_divide.proofs.Dividing.{Dividing}
 use Rattle.word_divide.proofs.divide_in.Given as goal
 
 abbrev pub invariant-loop-i : goal.invariant-loop-i

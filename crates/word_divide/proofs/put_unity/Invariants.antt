@@ -1,12 +1,7 @@
 -- `word_divide::put_unity` meets its contract. The invariant: the places below j are zero.
 -- Assumes nothing.
 use Prim.Native.Nat.{◌-◌, ◌≤◌}
-use mathlib.Core.Path.{◌≡◌, refl}
-use native.Mathlib.Omega.{arith}
-use Rattle.spec_range.proofs.Loop.{Over, over_none, over_more}
-use Rattle.word_table.proofs.Window.{over_window}
-use Rattle.word_divide.proofs.Dividing.{unity_put}
-use borrow.Author.Rules.{rules}
+use Rattle.spec_range.proofs.Loop.{Over}
 use Rattle.word_divide.proofs.put_unity.Given as goal
 
 abbrev pub invariant-loop-j : goal.invariant-loop-j

@@ -1,11 +1,8 @@
 -- `word_packed::pack` meets its contract. The invariant: the symbols below k are packed.
 -- Assumes nothing.
 use Prim.Native.Nat.{◌-◌, ◌≤◌}
-use mathlib.Core.Path.{◌≡◌}
-use native.Mathlib.Omega.{arith}
 use lib.ListN.{get_or}
-use Rattle.word_packed.proofs.Gathering.{Gathered, gathered_none, gathered_more}
-use borrow.Author.Rules.{rules}
+use Rattle.word_packed.proofs.Gathering.{Gathered}
 use Rattle.word_packed.proofs.pack.Given as goal
 
 abbrev pub invariant-loop-k : goal.invariant-loop-k

@@ -8,7 +8,6 @@ use Rattle.spec_range.proofs.Table.{table_same}
 use Rattle.word_array.specs.Stored.{place}
 use Rattle.word_array.proofs.Eights.{part_at}
 use Rattle.word_table.proofs.Window.{read_table}
-use borrow.Author.Rules.{rules}
 use Rattle.word_table.proofs.add_block.Goals as goal
 
 pub returns : goal.returns

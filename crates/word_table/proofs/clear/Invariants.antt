@@ -1,12 +1,7 @@
 -- `word_table::clear` meets its contract. The invariant: b blocks are cleared.
 -- Assumes nothing.
 use Prim.Native.Nat.{◌-◌, ◌*◌, ◌≤◌}
-use mathlib.Core.Path.{◌≡◌, refl}
-use native.Mathlib.Omega.{arith}
-use Rattle.spec_range.proofs.Loop.{zero_at}
 use Rattle.word_table.specs.Window.{Window}
-use Rattle.word_table.proofs.Window.{window_none, window_join}
-use borrow.Author.Rules.{rules}
 use Rattle.word_table.proofs.clear.Given as goal
 
 abbrev pub invariant-loop-b : goal.invariant-loop-b

@@ -1,10 +1,8 @@
 -- `word_table::copy_blocks` meets its contract. The invariant: b blocks are copied.
 -- Assumes nothing.
-use Prim.Native.Nat.{◌+◌, ◌-◌, ◌*◌, ◌≤◌}
 use mathlib.Core.Path.{◌≡◌, refl, ap, ◌∙◌}
 use native.Mathlib.Omega.{arith}
 use Rattle.word_array.specs.Stored.{place}
-use Rattle.word_table.specs.Window.{Window}
 use Rattle.word_table.proofs.Window.{window_none, window_join, read_table}
 use borrow.Author.Rules.{rules}
 use Rattle.word_table.proofs.copy_blocks.Goals as goal

@@ -1,10 +1,8 @@
 -- `word_table::last_block` meets its contract. The invariant: the places below j are the slice's.
 -- Assumes nothing.
-use Prim.Native.Nat.{◌+◌, ◌-◌, ◌≤◌}
 use mathlib.Core.Path.{refl}
 use native.Mathlib.Omega.{arith}
-use Rattle.spec_range.proofs.Loop.{Held, held_none, held_more}
-use Rattle.word_array.specs.Stored.{place}
+use Rattle.spec_range.proofs.Loop.{held_none, held_more}
 use Rattle.word_array.proofs.Filled.{held_end}
 use borrow.Author.Rules.{rules}
 use Rattle.word_table.proofs.last_block.Goals as goal

@@ -1,12 +1,8 @@
 -- `word_table::product` meets its contract. The invariant: b blocks of the sum are written.
 -- Assumes nothing.
-use Prim.Native.Nat.{◌+◌, ◌-◌, ◌*◌, ◌≤◌}
 use mathlib.Core.Path.{◌≡◌, refl, ◌∙◌}
 use native.Mathlib.Omega.{arith}
 use Rattle.sizes.proofs.Lengths.{blocks_high}
-use Rattle.word_array.specs.Stored.{place}
-use Rattle.word_table.specs.Rows.{turned_sum}
-use Rattle.word_table.specs.Window.{Window}
 use Rattle.word_table.proofs.Window.{window_none, window_join, read_table}
 use borrow.Author.Rules.{rules}
 use Rattle.word_table.proofs.product.Goals as goal

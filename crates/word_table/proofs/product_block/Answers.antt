@@ -1,11 +1,9 @@
 -- `word_table::product_block` meets its contract. The invariant: the rows of the first u places are summed.
 -- Assumes nothing.
-use Prim.Native.Nat.{◌+◌, ◌-◌, ◌*◌, ◌≤◌}
+use Prim.Native.Nat.{◌+◌, ◌*◌, ◌≤◌}
 use native.Mathlib.Omega.{arith}
 use lib.ListN.{length}
-use Rattle.word_array.specs.Stored.{place}
-use Rattle.word_table.proofs.Sums.{Summing, summing_none, summing_more, summing_end}
-use borrow.Author.Rules.{rules}
+use Rattle.word_table.proofs.Sums.{summing_none, summing_more, summing_end}
 use Rattle.word_table.proofs.product_block.Goals as goal
 
 pub loop-u-init : goal.loop-u-init

@@ -1,11 +1,8 @@
 -- `word_table::product_block` meets its contract. The invariant: the rows of the first u places are summed.
 -- Assumes nothing.
-use Prim.Native.Nat.{◌+◌, ◌-◌, ◌*◌, ◌≤◌}
-use native.Mathlib.Omega.{arith}
-use lib.ListN.{length}
+use Prim.Native.Nat.{◌+◌, ◌-◌, ◌*◌}
 use Rattle.word_array.specs.Stored.{place}
-use Rattle.word_table.proofs.Sums.{Summing, summing_none, summing_more, summing_end}
-use borrow.Author.Rules.{rules}
+use Rattle.word_table.proofs.Sums.{Summing}
 use Rattle.word_table.proofs.product_block.Given as goal
 
 abbrev pub invariant-loop-u : goal.invariant-loop-u

@@ -1,10 +1,7 @@
 -- `word_table::put_block` meets its contract. The invariant: the places below `to + j` are written.
 -- Assumes nothing.
-use Prim.Native.Nat.{◌-◌, ◌≤◌}
 use mathlib.Core.Path.{◌≡◌, refl}
 use native.Mathlib.Omega.{arith}
-use Rattle.word_array.specs.Stored.{place}
-use Rattle.word_table.specs.Window.{Window}
 use Rattle.word_table.proofs.Window.{window_none, window_more}
 use borrow.Author.Rules.{rules}
 use Rattle.word_table.proofs.put_block.Goals as goal

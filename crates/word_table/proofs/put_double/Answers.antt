@@ -1,13 +1,12 @@
 -- `word_table::put_double` meets its contract. The invariant: b blocks of row 2c are written; row c stands below them, as it was.
 -- Assumes nothing.
 use mathlib.Core.Path.{◌≡◌, refl, sym, ap, ◌∙◌, subst}
-use Prim.Native.Nat.{ℕ, ◌+◌, ◌*◌, ◌-◌, ◌^◌, ◌≤◌, ◌<◌}
+use Prim.Native.Nat.{ℕ, ◌+◌, ◌*◌, ◌^◌, ◌<◌}
 use native.Mathlib.Nat.{mul-le-mul_right}
 use native.Mathlib.Omega.{arith}
 use Rattle.spec_field.specs.Symbols.{times_x}
 use Rattle.word_array.specs.Stored.{place}
 use Rattle.word_table.specs.Multiples.{entry}
-use Rattle.word_table.specs.Window.{Window}
 use Rattle.word_table.proofs.Window.{window_none, window_join, read_table}
 use Rattle.word_table.proofs.Rows.{rows_apart, row_put}
 use borrow.Author.Rules.{rules}

@@ -1,13 +1,11 @@
 -- `word_table::put_next` meets its contract. The invariant: b blocks of row 2c + 1 are written; rows 1 and 2c stand below them, as they were.
 -- Assumes nothing.
 use mathlib.Core.Path.{refl, ap, ap₂, ◌∙◌}
-use Prim.Native.Nat.{◌+◌, ◌*◌, ◌-◌, ◌≤◌}
+use Prim.Native.Nat.{◌+◌, ◌*◌}
 use native.Mathlib.Nat.{mul-le-mul_right}
 use native.Mathlib.Omega.{arith}
 use lib.Bits.{bit_xor}
 use Rattle.word_array.specs.Stored.{place}
-use Rattle.word_table.specs.Multiples.{entry}
-use Rattle.word_table.specs.Window.{Window}
 use Rattle.word_table.proofs.Window.{window_none, window_join, read_table}
 use Rattle.word_table.proofs.Rows.{rows_apart, row_put}
 use borrow.Author.Rules.{rules}

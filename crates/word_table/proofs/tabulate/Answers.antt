@@ -1,15 +1,13 @@
 -- `word_table::tabulate` meets its contract. The invariant: the rows below 2c are put, and the length is as before.
 -- Assumes nothing.
-use mathlib.Core.Path.{◌≡◌, refl, ◌∙◌}
-use Prim.Native.Nat.{◌+◌, ◌*◌, ◌-◌, ◌^◌, ◌≤◌}
+use mathlib.Core.Path.{refl, ◌∙◌}
+use Prim.Native.Nat.{◌+◌, ◌*◌, ◌^◌}
 use native.Mathlib.Omega.{arith}
-use lib.ListN.{length}
 use lib.Pow.{pow_pos, pow_mono}
 use Rattle.sizes.specs.Blocks.{stride}
 use Rattle.sizes.proofs.Lengths.{blocks_low, blocks_high, blocks_fit}
 use Rattle.spec_field.proofs.Doubling.{next_below}
-use Rattle.word_table.specs.Multiples.{entry}
-use Rattle.word_table.proofs.Rows.{Rows, rows_apart, whole, as_whole, rows_first, rows_stored, rows_double, rows_end}
+use Rattle.word_table.proofs.Rows.{rows_apart, whole, as_whole, rows_first, rows_stored, rows_double, rows_end}
 use borrow.Author.Rules.{rules}
 use Rattle.word_table.proofs.tabulate.Goals as goal
 

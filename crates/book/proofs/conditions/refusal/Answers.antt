@@ -7,7 +7,6 @@ use Rattle.spec_book.specs.Conditions.{generator_ok, limits_ok, duals_ok, book_r
 use Rattle.book_records.proofs.Tested.{failed, passed}
 use Rattle.book.proofs.DualWords.{comparable, distinct_test}
 use Rattle.book.proofs.Gathering.{gathered_limits}
-use borrow.Author.Rules.{rules}
 use Rattle.std.proofs.lemmas.Bool.{not_from_true, not_from_false}
 use Rattle.book.proofs.conditions.refusal.Goals as goal
 

@@ -1,8 +1,6 @@
 -- `book::generator::degree` meets its contract. The invariant: d is the degree of the places below i.
 -- Assumes nothing.
 use mathlib.Core.Path.{◌≡◌, sym, ◌∙◌}
-use mathlib.Core.Logic.{⊎_elim}
-use Prim.Native.Nat.{◌-◌, ◌≤◌}
 use native.Mathlib.Omega.{arith}
 use Rattle.spec_range.proofs.Loop.{fold_none}
 use Rattle.spec_book.specs.Layout.{degree_of, book_of}

@@ -1,15 +1,8 @@
 -- `book::generator::degree` meets its contract. The invariant: d is the degree of the places below i.
 -- Assumes nothing.
-use mathlib.Core.Path.{◌≡◌, sym, ◌∙◌}
-use mathlib.Core.Logic.{⊎_elim}
+use mathlib.Core.Path.{◌≡◌}
 use Prim.Native.Nat.{◌-◌, ◌≤◌}
-use native.Mathlib.Omega.{arith}
-use Rattle.spec_range.proofs.Loop.{fold_none}
 use Rattle.spec_book.specs.Layout.{degree_of, book_of}
-use Rattle.spec_book.proofs.Accepting.{degree_lt}
-use Rattle.book.proofs.Degree.{degree_nonzero, degree_zero}
-use Rattle.book.proofs.Reading.{generator_at_lem}
-use borrow.Author.Rules.{rules}
 use Rattle.book.proofs.generator.degree.Given as goal
 
 abbrev pub invariant-loop-i : goal.invariant-loop-i

@@ -2,11 +2,7 @@
 -- Assumes nothing.
 use mathlib.Core.Path.{sym, ap, ◌∙◌}
 use mathlib.Core.Bool.{not}
-use Prim.Native.Nat.{◌-◌}
-use Rattle.spec_range.proofs.Loop.{Passing, passing_none, passing_more, passing_fails, passing_end}
-use Rattle.spec_field.specs.Symbols.{gf}
-use Rattle.spec_word.specs.Alike.{alike}
-use Rattle.book_duals.specs.Duals.{dual_word}
+use Rattle.spec_range.proofs.Loop.{passing_none, passing_more, passing_fails, passing_end}
 use Rattle.book_alike.specs.Compared.{differ}
 use borrow.Author.Rules.{rules}
 use Rattle.book_alike.proofs.compare.like_earlier.Goals as goal

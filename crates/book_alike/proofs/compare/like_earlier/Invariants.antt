@@ -1,14 +1,11 @@
 -- `book_alike::compare::like_earlier` meets its contract. The invariant: no dual word below m is like dual word l.
 -- Assumes nothing.
-use mathlib.Core.Path.{sym, ap, ◌∙◌}
 use mathlib.Core.Bool.{not}
 use Prim.Native.Nat.{◌-◌}
-use Rattle.spec_range.proofs.Loop.{Passing, passing_none, passing_more, passing_fails, passing_end}
+use Rattle.spec_range.proofs.Loop.{Passing}
 use Rattle.spec_field.specs.Symbols.{gf}
 use Rattle.spec_word.specs.Alike.{alike}
 use Rattle.book_duals.specs.Duals.{dual_word}
-use Rattle.book_alike.specs.Compared.{differ}
-use borrow.Author.Rules.{rules}
 use Rattle.book_alike.proofs.compare.like_earlier.Given as goal
 
 abbrev pub invariant-loop-m : goal.invariant-loop-m

@@ -4,8 +4,7 @@ use mathlib.Core.Path.{refl, sym}
 use native.Mathlib.Omega.{arith}
 use Rattle.book_alike.proofs.Words.{body_room, body_symbol, table_of}
 use Rattle.book_alike.proofs.Differing.{told_once, once_differs}
-use borrow.Author.Rules.{rules}
-use Rattle.std.proofs.lemmas.Bool.{not_from_true, not_from_false}
+use Rattle.std.proofs.lemmas.Bool.{not_from_false}
 use Rattle.book_alike.proofs.compare.seen_before.Goals as goal
 
 pub returns-then-not-repeated : goal.returns-then-not-repeated

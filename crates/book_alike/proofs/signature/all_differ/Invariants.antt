@@ -1,14 +1,10 @@
 -- `book_alike::signature::all_differ` meets its contract. The invariant: `found` adds up how often each number below place l is found.
 -- Assumes nothing.
-use mathlib.Core.Path.{◌≡◌, sym, ap}
-use Prim.Native.Nat.{ℕ, ◌+◌, ◌*◌, ◌-◌, ◌≤◌}
-use native.Mathlib.Omega.{arith}
-use lib.Dec.{eqb}
+use mathlib.Core.Path.{◌≡◌}
+use Prim.Native.Nat.{◌*◌, ◌-◌, ◌≤◌}
 use Rattle.spec_range.specs.Fold.{total}
-use Rattle.spec_range.proofs.Loop.{fold_none, fold_step}
 use Rattle.word_array.specs.Stored.{place}
 use Rattle.book_alike.specs.Signed.{times_of}
-use borrow.Author.Rules.{rules}
 use Rattle.book_alike.proofs.signature.all_differ.Given as goal
 
 abbrev pub invariant-loop-l : goal.invariant-loop-l

@@ -1,11 +1,10 @@
 -- `book_alike::signature::lay` meets its contract. The invariant: the rows below i are laid.
 -- Assumes nothing.
 use mathlib.Core.Path.{◌≡◌}
-use Prim.Native.Nat.{◌+◌, ◌-◌, ◌*◌, ◌≤◌}
+use Prim.Native.Nat.{◌+◌, ◌*◌, ◌≤◌}
 use native.Mathlib.Omega.{arith}
 use Rattle.sizes.proofs.Lengths.{blocks_fit}
 use lib.ListN.{length}
-use Rattle.book_alike.specs.Signed.{Rows}
 use Rattle.book_alike.proofs.Words.{body_start, body_room}
 use Rattle.book_alike.proofs.Laying.{row_within, rows_none, rows_more}
 use borrow.Author.Rules.{rules}

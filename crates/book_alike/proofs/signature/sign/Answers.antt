@@ -1,14 +1,11 @@
 -- `book_alike::signature::sign` meets its contract. The invariant: the signatures of the rows below i are stored.
 -- Assumes nothing.
 use mathlib.Core.Path.{◌≡◌}
-use Prim.Native.Nat.{◌+◌, ◌*◌, ◌-◌, ◌≤◌}
+use Prim.Native.Nat.{◌+◌, ◌*◌, ◌≤◌}
 use native.Mathlib.Omega.{arith}
 use lib.ListN.{length}
 use Rattle.sizes.proofs.Lengths.{blocks_high, blocks_fit}
-use Rattle.word_array.specs.Stored.{place}
-use Rattle.word_table.specs.Window.{Window}
 use Rattle.word_table.proofs.Window.{window_none, window_more}
-use Rattle.word_alike.specs.Signature.{signature_of}
 use Rattle.book_alike.proofs.Laying.{row_within}
 use borrow.Author.Rules.{rules}
 use Rattle.book_alike.proofs.signature.sign.Goals as goal

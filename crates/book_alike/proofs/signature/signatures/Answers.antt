@@ -3,9 +3,7 @@
 use mathlib.Core.Path.{◌≡◌, sym, ◌∙◌}
 use Prim.Native.Nat.{◌*◌, ◌-◌, ◌≤◌}
 use native.Mathlib.Omega.{arith}
-use lib.ListN.{length}
 use Rattle.sizes.specs.Blocks.{stride}
-use Rattle.book_alike.specs.Signed.{Signed}
 use Rattle.book_alike.proofs.Laying.{bodies_part, shift_high, rows_taken, signed_none, signed_more}
 use borrow.Author.Rules.{rules}
 use Rattle.book_alike.proofs.signature.signatures.Goals as goal

@@ -1,13 +1,9 @@
 -- `book_alike::signature::signatures` meets its contract. The invariant: the signatures below l are stored.
 -- Assumes nothing.
-use mathlib.Core.Path.{◌≡◌, sym, ◌∙◌}
-use Prim.Native.Nat.{◌*◌, ◌-◌, ◌≤◌}
-use native.Mathlib.Omega.{arith}
+use mathlib.Core.Path.{◌≡◌}
+use Prim.Native.Nat.{◌-◌, ◌≤◌}
 use lib.ListN.{length}
-use Rattle.sizes.specs.Blocks.{stride}
 use Rattle.book_alike.specs.Signed.{Signed}
-use Rattle.book_alike.proofs.Laying.{bodies_part, shift_high, rows_taken, signed_none, signed_more}
-use borrow.Author.Rules.{rules}
 use Rattle.book_alike.proofs.signature.signatures.Given as goal
 
 abbrev pub invariant-loop-l : goal.invariant-loop-l

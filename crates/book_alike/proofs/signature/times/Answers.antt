@@ -1,10 +1,7 @@
 -- `book_alike::signature::times` meets its contract. The invariant: `found` is the number of those below place m that are x.
 -- Assumes nothing.
-use Prim.Native.Nat.{◌-◌}
 use native.Mathlib.Omega.{arith}
-use lib.Dec.{eqb}
-use Rattle.word_array.specs.Stored.{place}
-use Rattle.word_array.proofs.Counted.{Counted, counted_none, counted_more, counted_end}
+use Rattle.word_array.proofs.Counted.{counted_none, counted_more, counted_end}
 use Rattle.book_alike.specs.Signed.{times_of}
 use Rattle.book_alike.proofs.Differing.{counted_fits}
 use borrow.Author.Rules.{rules}

@@ -1,14 +1,9 @@
 -- `book_duals::packed::double_block` meets its contract. The invariant: j places are written.
 -- Assumes nothing.
-use mathlib.Core.Path.{◌≡◌, refl}
 use Prim.Native.Nat.{◌-◌, ◌≤◌}
-use native.Mathlib.Omega.{arith}
 use Rattle.word_array.specs.Stored.{place}
 use Rattle.word_table.specs.Window.{Window}
-use Rattle.word_table.proofs.Window.{window_none, window_more}
 use Rattle.book_duals.specs.Lanes.{double_all}
-use Rattle.book_duals.proofs.Lanes.{rest_fits, top_fits, double_value}
-use borrow.Author.Rules.{rules}
 use Rattle.book_duals.proofs.packed.double_block.Given as goal
 
 abbrev pub invariant-loop-j : goal.invariant-loop-j

@@ -1,16 +1,14 @@
 -- `book_duals::packed::multiples` meets its contract. The invariant: the rows below 2c are put, and the length is as before.
 -- Assumes nothing.
-use mathlib.Core.Path.{◌≡◌, refl, ◌∙◌}
-use Prim.Native.Nat.{◌+◌, ◌-◌, ◌*◌, ◌^◌, ◌≤◌}
+use mathlib.Core.Path.{refl, ◌∙◌}
+use Prim.Native.Nat.{◌+◌, ◌*◌, ◌^◌}
 use native.Mathlib.Omega.{arith}
-use lib.ListN.{length}
 use lib.Pow.{pow_pos, pow_mono}
 use Rattle.spec_field.proofs.Doubling.{next_below}
 use Rattle.sizes.specs.Blocks.{stride}
 use Rattle.sizes.proofs.Lengths.{blocks_low, blocks_high, blocks_fit}
-use Rattle.word_table.specs.Multiples.{entry}
 use Rattle.word_table.proofs.Rows.{rows_apart}
-use Rattle.book_duals.proofs.LaneRows.{LaneRows, lanes-first, lanes_double, lanes_end}
+use Rattle.book_duals.proofs.LaneRows.{lanes-first, lanes_double, lanes_end}
 use borrow.Author.Rules.{rules}
 use Rattle.book_duals.proofs.packed.multiples.Goals as goal
 

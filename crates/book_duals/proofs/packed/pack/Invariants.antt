@@ -1,13 +1,9 @@
 -- `book_duals::packed::pack` meets its contract. The invariant: the places below j have the sum.
 -- Assumes nothing.
-use mathlib.Core.Path.{◌≡◌}
 use Prim.Native.Nat.{◌+◌, ◌-◌, ◌*◌, ◌%◌, ◌^◌, ◌≤◌}
-use native.Mathlib.Nat.{le_refl}
-use native.Mathlib.Omega.{arith}
 use lib.Bits.{bit_xor}
-use Rattle.spec_range.proofs.Loop.{Over, over_none, over_more, over_table}
+use Rattle.spec_range.proofs.Loop.{Over}
 use Rattle.word_array.specs.Stored.{place}
-use borrow.Author.Rules.{rules}
 use Rattle.book_duals.proofs.packed.pack.Given as goal
 
 abbrev pub invariant-loop-j : goal.invariant-loop-j

@@ -1,14 +1,8 @@
 -- `book_duals::packed::packed` meets its contract. The invariant: b blocks are packed.
 -- Assumes nothing.
-use mathlib.Core.Path.{refl}
-use mathlib.Core.Path.{◌≡◌}
 use Prim.Native.Nat.{◌-◌, ◌*◌, ◌≤◌}
-use native.Mathlib.Omega.{arith}
 use Rattle.word_table.specs.Window.{Window}
-use Rattle.word_table.proofs.Window.{window_none, window_join, read_table}
-use Rattle.sizes.specs.Blocks.{blocks}
 use Rattle.book_duals.specs.Lanes.{packed_at}
-use borrow.Author.Rules.{rules}
 use Rattle.book_duals.proofs.packed.packed.Given as goal
 
 abbrev pub invariant-loop-b : goal.invariant-loop-b

@@ -1,11 +1,11 @@
 -- `book_duals::packed::packed_block` meets its contract. The invariant: the first i dual words are packed.
 -- Assumes nothing.
-use Prim.Native.Nat.{◌+◌, ◌-◌, ◌≤◌}
+use Prim.Native.Nat.{◌+◌, ◌≤◌}
 use native.Mathlib.Omega.{arith}
 use lib.ListN.{length}
 use Rattle.spec_book.specs.Layout.{width}
 use Rattle.book_duals.proofs.Places.{dual_room}
-use Rattle.book_duals.proofs.Packing.{Packing, packing_none, packing_fits, packing_more, packing_end}
+use Rattle.book_duals.proofs.Packing.{packing_none, packing_fits, packing_more, packing_end}
 use borrow.Author.Rules.{rules}
 use Rattle.book_duals.proofs.packed.packed_block.Goals as goal
 

@@ -6,7 +6,6 @@ use native.Mathlib.Omega.{arith}
 use Rattle.sizes.specs.Blocks.{stride}
 use Rattle.sizes.proofs.Lengths.{blocks_fit}
 use Rattle.book_duals.proofs.LaneProduct.{generator_row, packed-digits, packed-zeros}
-use borrow.Author.Rules.{rules}
 use Rattle.book_duals.proofs.packed.product_of.Goals as goal
 
 pub multiples-requires : goal.multiples-requires

@@ -2,7 +2,6 @@
 -- Assumes nothing.
 use mathlib.Core.Path.{sym, ◌∙◌}
 use native.Mathlib.Omega.{arith}
-use borrow.Author.Rules.{rules}
 use Rattle.spec_range.proofs.Tests.{true_test}
 use Rattle.spec_operations.specs.Burst.{burst_input_refusal}
 use Rattle.spec_book.proofs.Inputs.{words_high}

@@ -1,12 +1,9 @@
 -- `burst::words::decode_all` meets its contract. The invariant is `SoFar`: what stands after m words.
 -- Assumes nothing.
-use mathlib.Core.Path.{◌∙◌}
-use Prim.Native.Nat.{◌-◌}
 use native.Mathlib.Omega.{arith}
 use Rattle.book.proofs.Described.{params_sizes}
-use Rattle.burst.proofs.Working.{part_end, part_within}
-use Rattle.burst.proofs.Loop.{SoFar, none_yet, one_more, all_of_them}
-use borrow.Author.Rules.{rules}
+use Rattle.burst.proofs.Working.{part_end}
+use Rattle.burst.proofs.Loop.{none_yet, one_more, all_of_them}
 use Rattle.burst.proofs.words.decode_all.Goals as goal
 
 pub loop-m-init : goal.loop-m-init

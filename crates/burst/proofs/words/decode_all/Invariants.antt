@@ -1,12 +1,7 @@
 -- `burst::words::decode_all` meets its contract. The invariant is `SoFar`: what stands after m words.
 -- Assumes nothing.
-use mathlib.Core.Path.{◌∙◌}
 use Prim.Native.Nat.{◌-◌}
-use native.Mathlib.Omega.{arith}
-use Rattle.book.proofs.Described.{params_sizes}
-use Rattle.burst.proofs.Working.{part_end, part_within}
-use Rattle.burst.proofs.Loop.{SoFar, none_yet, one_more, all_of_them}
-use borrow.Author.Rules.{rules}
+use Rattle.burst.proofs.Loop.{SoFar}
 use Rattle.burst.proofs.words.decode_all.Given as goal
 
 abbrev pub invariant-loop-m : goal.invariant-loop-m

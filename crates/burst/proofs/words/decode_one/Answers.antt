@@ -6,7 +6,6 @@ use native.Mathlib.Omega.{arith}
 use lib.Seq.{length-take-le}
 use Rattle.book.proofs.Described.{params_sizes}
 use Rattle.burst.proofs.Word.{room_for, word_is, decoded_word}
-use borrow.Author.Rules.{rules}
 use Rattle.burst.proofs.words.decode_one.Goals as goal
 
 pub unmix-w-requires : goal.unmix-w-requires

@@ -1,7 +1,6 @@
 -- `burst::words::record_of` meets its contract.
 -- Assumes nothing.
 use mathlib.Core.Path.{refl}
-use borrow.Author.Rules.{rules}
 use Rattle.burst.proofs.words.record_of.Goals as goal
 
 pub returns-in-Answered : goal.returns-in-Answered

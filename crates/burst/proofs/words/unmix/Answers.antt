@@ -1,12 +1,11 @@
 -- `burst::words::unmix` meets its contract. The invariant: the places below j are those of word m.
 -- Assumes nothing.
 use mathlib.Core.Path.{refl}
-use Prim.Native.Nat.{◌+◌, ◌*◌, ◌-◌, ◌≤◌}
+use Prim.Native.Nat.{◌*◌}
 use native.Mathlib.Nat.{le_refl}
 use native.Mathlib.Omega.{arith}
 use borrow.Author.Rules.{rules}
-use Rattle.spec_range.proofs.Loop.{Held, held_none, held_more}
-use Rattle.word_array.specs.Stored.{place}
+use Rattle.spec_range.proofs.Loop.{held_none, held_more}
 use Rattle.word_array.proofs.Filled.{held_end}
 use Rattle.burst.proofs.Working.{within, burst_small}
 use Rattle.burst.proofs.words.unmix.Goals as goal

@@ -1,14 +1,8 @@
 -- `burst::words::unmix` meets its contract. The invariant: the places below j are those of word m.
 -- Assumes nothing.
-use mathlib.Core.Path.{refl}
 use Prim.Native.Nat.{◌+◌, ◌*◌, ◌-◌, ◌≤◌}
-use native.Mathlib.Nat.{le_refl}
-use native.Mathlib.Omega.{arith}
-use borrow.Author.Rules.{rules}
-use Rattle.spec_range.proofs.Loop.{Held, held_none, held_more}
+use Rattle.spec_range.proofs.Loop.{Held}
 use Rattle.word_array.specs.Stored.{place}
-use Rattle.word_array.proofs.Filled.{held_end}
-use Rattle.burst.proofs.Working.{within, burst_small}
 use Rattle.burst.proofs.words.unmix.Given as goal
 
 abbrev pub invariant-loop-j : goal.invariant-loop-j
