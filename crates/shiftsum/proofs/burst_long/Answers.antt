@@ -7,7 +7,6 @@ use lib.ListN.{length}
 use lib.Seq.{length-take-le}
 use Rattle.book.specs.Opened.{MatrixBound}
 use Rattle.shiftsum.proofs.Room.{made_into}
-use borrow.Author.Rules.{rules}
 use Rattle.shiftsum.proofs.burst_long.Goals as goal
 
 pub slice_bounds-room-end : goal.slice_bounds-room-end

@@ -1,7 +1,6 @@
 -- `shiftsum::burst_made` meets its contract: whichever room is taken, what is made is the same definition's.
 -- Assumes nothing.
 use mathlib.Core.Path.{sym, ◌∙◌}
-use borrow.Author.Rules.{rules}
 use Rattle.shiftsum.proofs.burst_made.Goals as goal
 
 pub burst_long_few-requires : goal.burst_long_few-requires

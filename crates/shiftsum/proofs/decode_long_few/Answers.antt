@@ -1,13 +1,12 @@
 -- `shiftsum::decode_long_few` meets its contract.
 -- Assumes nothing.
-use mathlib.Core.Path.{◌≡◌, sym, ◌∙◌, subst}
-use Prim.Native.Nat.{ℕ, ◌≤◌}
+use mathlib.Core.Path.{sym, subst}
+use Prim.Native.Nat.{◌≤◌}
 use native.Mathlib.Omega.{arith}
 use lib.ListN.{length}
 use lib.Seq.{length-take-le}
 use Rattle.book.specs.Opened.{MatrixBound}
 use Rattle.shiftsum.proofs.Room.{decoded_into}
-use borrow.Author.Rules.{rules}
 use Rattle.shiftsum.proofs.decode_long_few.Goals as goal
 
 pub slice_bounds-room-end : goal.slice_bounds-room-end

@@ -2,7 +2,6 @@
 -- Assumes nothing.
 use mathlib.Core.Path.{ap, ◌∙◌}
 use Rattle.spec_operations.specs.Packed.{result_of}
-use borrow.Author.Rules.{rules}
 use Rattle.shiftsum.proofs.shiftsum_check.Goals as goal
 
 pub returns : goal.returns

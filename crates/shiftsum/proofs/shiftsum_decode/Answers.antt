@@ -1,7 +1,6 @@
 -- `shiftsum::shiftsum_decode` meets its contract: whichever room is taken, the answer is the same definition's.
 -- Assumes nothing.
 use mathlib.Core.Path.{sym, ◌∙◌}
-use borrow.Author.Rules.{rules}
 use Rattle.shiftsum.proofs.shiftsum_decode.Goals as goal
 
 pub decode_long_few-requires : goal.decode_long_few-requires

@@ -1,4 +1,4 @@
--- What the walk reads of the contract of `burst_made`, and that it gives the contract of `shiftsum_burst`. No other file of the proof names either.
+-- What `burst_made` says of what it made gives the contract of `shiftsum_burst`.
 -- Assumes nothing.
 use mathlib.Core.Path.{◌≡◌, sym, ap, ◌∙◌, subst}
 use mathlib.Core.List.{List}
@@ -15,7 +15,7 @@ use Rattle.burst.specs.declared.Record.{Record}
 use Rattle.burst.specs.declared.Burst.{Burst}
 use Rattle.burst.proofs.Listing.{taken, counted_most, listed}
 use Rattle.shiftsum.specs.Made.{Made}
-use Rattle.shiftsum.proofs.shiftsum_burst.Proof.Lists.{upto}
+use Rattle.shiftsum.proofs.Filled.{upto}
 
 module _ (book : List ℕ) (words : ℕ) (received answers : List ℕ) (records : List Record) where
   abbrev number : ℕ
@@ -36,9 +36,9 @@ module _ (book : List ℕ) (words : ℕ) (received answers : List ℕ) (records 
     fits = within (length records) (λ z. le_of_eq (sym (taken book words received (length answers) (length records) (matrix_size book) z).list_size))
 
     -- so the contract holds of the number, of those answers, and of the records zs that the loop left
-    pub returns : (zs : List Record) → zs ≡ upto made.count made.records records
+    pub returned : (zs : List Record) → zs ≡ upto made.count made.records records
         → ReturnsBurst number words (burst_word book words received) answers (list_bytes records) made.number last (list_bytes zs)
-    returns zs are =
+    returned zs are =
         let bursts = said.answered.bursts in
         let number_is = number_result made.number ∙ ap result_of bursts.says in
         record {
