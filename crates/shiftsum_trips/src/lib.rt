@@ -1,5 +1,7 @@
 // What a C caller sees of two calls: each function here calls exported functions of `shiftsum`, and its contract speaks of the numbers that they return and
 // of the buffers. shiftsum_burst is not among them: it takes a slice of structs, and a call of it is proved by hand alone.
+#![tactic(auto)]
+
 ghost use Rattle.std.specs.Prelude.{◌≡◌, List, [], ℕ, length};
 ghost use Rattle.spec_book.specs.Book.{message_length};
 ghost use Rattle.spec_book.specs.Layout.{book_of};

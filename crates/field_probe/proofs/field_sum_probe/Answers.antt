@@ -1,7 +1,6 @@
 -- `field_probe::field_sum_probe` meets its contract.
 -- Assumes nothing.
 use mathlib.Core.Path.{ap, ◌∙◌}
-use borrow.Author.Rules.{rules}
 use Rattle.spec_operations.specs.Packed.{result_of}
 use Rattle.field_probe.proofs.field_sum_probe.Goals as goal
 

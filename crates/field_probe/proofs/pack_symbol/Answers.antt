@@ -1,7 +1,6 @@
 -- `field_probe::pack_symbol` meets its contract.
 -- Assumes nothing.
 use native.Mathlib.Omega.{arith}
-use borrow.Author.Rules.{rules}
 use Rattle.field_probe.proofs.pack_symbol.Goals as goal
 
 pub returns-in-Value : goal.returns-in-Value

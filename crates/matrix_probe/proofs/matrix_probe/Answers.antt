@@ -1,7 +1,6 @@
 -- `matrix_probe::matrix_probe` meets its contract.
 -- Assumes nothing.
 use mathlib.Core.Path.{ap, ◌∙◌}
-use borrow.Author.Rules.{rules}
 use Rattle.spec_operations.specs.Packed.{result_of}
 use Rattle.matrix_probe.proofs.matrix_probe.Goals as goal
 

@@ -1,7 +1,6 @@
 -- `packing::pack_checked` meets its contract.
 -- Assumes nothing.
 use native.Mathlib.Omega.{arith}
-use borrow.Author.Rules.{rules}
 use Rattle.packing.proofs.pack_checked.Goals as goal
 
 pub returns-in-Accepted : goal.returns-in-Accepted

@@ -1,7 +1,6 @@
 -- `packing::pack_decoded` meets its contract.
 -- Assumes nothing.
 use native.Mathlib.Omega.{arith}
-use borrow.Author.Rules.{rules}
 use Rattle.packing.proofs.pack_decoded.Goals as goal
 
 pub returns-in-Answered : goal.returns-in-Answered

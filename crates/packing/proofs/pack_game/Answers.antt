@@ -1,7 +1,6 @@
 -- `packing::pack_game` meets its contract.
 -- Assumes nothing.
 use native.Mathlib.Omega.{arith}
-use borrow.Author.Rules.{rules}
 use Rattle.packing.proofs.pack_game.Goals as goal
 
 pub returns-in-Held : goal.returns-in-Held

@@ -1,7 +1,6 @@
 -- `shiftsum_trips::code_then_read` meets its contract: what each call ensures, and the law about two of them.
 -- Assumes nothing.
 use Rattle.spec_operations.proofs.OverC.{code_then_read}
-use borrow.Author.Rules.{rules}
 use Rattle.shiftsum_trips.proofs.code_then_read.Goals as goal
 
 pub returns : goal.returns

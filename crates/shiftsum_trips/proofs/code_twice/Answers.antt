@@ -1,7 +1,6 @@
 -- `shiftsum_trips::code_twice` meets its contract: what each call ensures, and the law about two of them.
 -- Assumes nothing.
 use Rattle.spec_operations.proofs.OverC.{same_word}
-use borrow.Author.Rules.{rules}
 use Rattle.shiftsum_trips.proofs.code_twice.Goals as goal
 
 pub returns : goal.returns

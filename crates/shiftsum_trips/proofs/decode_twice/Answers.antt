@@ -1,7 +1,6 @@
 -- `shiftsum_trips::decode_twice` meets its contract: what each call ensures, and the law about two of them.
 -- Assumes nothing.
 use Rattle.spec_operations.proofs.OverC.{related}
-use borrow.Author.Rules.{rules}
 use Rattle.shiftsum_trips.proofs.decode_twice.Goals as goal
 
 pub returns : goal.returns

@@ -1,6 +1,5 @@
 -- `shiftsum_trips::game_of_coded` meets its contract: what the call ensures, and the law about coded messages.
 -- Assumes nothing.
-use borrow.Author.Rules.{rules}
 use Rattle.shiftsum_trips.proofs.Whole.{whole_over_c}
 use Rattle.shiftsum_trips.proofs.game_of_coded.Goals as goal
 

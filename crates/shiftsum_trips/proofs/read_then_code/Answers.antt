@@ -1,7 +1,6 @@
 -- `shiftsum_trips::read_then_code` meets its contract: what each call ensures, and the law about two of them.
 -- Assumes nothing.
 use Rattle.spec_operations.proofs.OverC.{read_then_code}
-use borrow.Author.Rules.{rules}
 use Rattle.shiftsum_trips.proofs.read_then_code.Goals as goal
 
 pub returns : goal.returns

@@ -1,7 +1,6 @@
 -- `shiftsum_trips::remainder_twice` meets its contract: what each call ensures, and the law about two of them.
 -- Assumes nothing.
 use Rattle.spec_operations.proofs.OverC.{sorted}
-use borrow.Author.Rules.{rules}
 use Rattle.shiftsum_trips.proofs.remainder_twice.Goals as goal
 
 pub returns : goal.returns

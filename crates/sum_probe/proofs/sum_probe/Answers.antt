@@ -4,7 +4,6 @@ use mathlib.Core.Path.{sym, ap, ◌∙◌}
 use native.Mathlib.Nat.{le_of_eq}
 use native.Mathlib.Omega.{arith}
 use lib.ListN.{length}
-use borrow.Author.Rules.{rules}
 use Rattle.spec_range.proofs.Loop.{padded-length}
 use Rattle.sum_probe.proofs.Adding.{lengths, refused, written}
 use Rattle.sum_probe.proofs.sum_probe.Goals as goal
