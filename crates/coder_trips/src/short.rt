@@ -16,9 +16,9 @@ pub fn code_twice(
     first: &mut [u8],
     second: &mut [u8],
 ) -> Both
-    ensures wrote { Wrote (code_refusal book.now message.now (length first.old))
+    ensures wrote_first { Wrote (code_refusal book.now message.now (length first.old))
         (coded book.now message.now) first.old (said result.first) first.new }
-    ensures wrote_2 { Wrote (code_refusal book.now whole.now (length second.old))
+    ensures wrote_second { Wrote (code_refusal book.now whole.now (length second.old))
         (coded book.now whole.now) second.old (said result.second) second.new }
     ensures same_word { GivenWrittenOut book.now message.now whole.now (length first.old) (length second.old)
         → SameWord (said result.first) (said result.second) first.new second.new }

@@ -16,9 +16,9 @@ pub fn remainder_twice(
     first: &mut [u8],
     second: &mut [u8],
 ) -> Both
-    ensures wrote { Wrote (remainder_refusal book.now one.now (length first.old))
+    ensures wrote_first { Wrote (remainder_refusal book.now one.now (length first.old))
         (remainder_of book.now one.now) first.old (said result.first) first.new }
-    ensures wrote_2 { Wrote (remainder_refusal book.now two.now (length second.old))
+    ensures wrote_second { Wrote (remainder_refusal book.now two.now (length second.old))
         (remainder_of book.now two.now) second.old (said result.second) second.new }
     ensures sorted { GivenTwo book.now one.now two.now (length first.old) (length second.old)
         → Sorted book.now one.now two.now (said result.first) (said result.second) first.new second.new }

@@ -20,9 +20,9 @@ pub struct Both {
 // Both calls answer and write what the definitions say, whatever is given; and a message that is accepted is read back, written out, from the word that
 // it was coded into.
 pub fn code_then_read(book: &[u8], message: &[u8], word: &mut [u8], back: &mut [u8]) -> Both
-    ensures wrote { Wrote (code_refusal book.now message.now (length word.old))
+    ensures wrote_there { Wrote (code_refusal book.now message.now (length word.old))
         (coded book.now message.now) word.old (said result.first) word.new }
-    ensures wrote_2 { Wrote (read_refusal book.now word.new (length back.old))
+    ensures wrote_back { Wrote (read_refusal book.now word.new (length back.old))
         (message_of book.now word.new) back.old (said result.second) back.new }
     ensures given_back { code_refusal book.now message.now (length word.old) ≡ 0
         → length back.old ≡ message_length (book_of book.now)
@@ -35,9 +35,9 @@ pub fn code_then_read(book: &[u8], message: &[u8], word: &mut [u8], back: &mut [
 
 // The same the other way round: a code word that is accepted is made again from the message that was read.
 pub fn read_then_code(book: &[u8], word: &[u8], message: &mut [u8], back: &mut [u8]) -> Both
-    ensures wrote { Wrote (read_refusal book.now word.now (length message.old))
+    ensures wrote_there { Wrote (read_refusal book.now word.now (length message.old))
         (message_of book.now word.now) message.old (said result.first) message.new }
-    ensures wrote_2 { Wrote (code_refusal book.now message.new (length back.old))
+    ensures wrote_back { Wrote (code_refusal book.now message.new (length back.old))
         (coded book.now message.new) back.old (said result.second) back.new }
     ensures given_back { read_refusal book.now word.now (length message.old) ≡ 0
         → length back.old ≡ (book_of book.now).n

@@ -1,4 +1,6 @@
 // The field operations as exported functions, for tests alone: no operation of the C boundary calls them.
+#![tactic(auto)]
+
 ghost use Rattle.std.specs.Prelude.{◌≡◌};
 ghost use Rattle.spec_field.specs.Operations.{sum_answer, product_answer, inverse_answer};
 ghost use Rattle.spec_operations.specs.Packed.{result_of};

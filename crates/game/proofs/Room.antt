@@ -1,6 +1,6 @@
 -- The rooms of a game are large enough for the book that they are chosen for.
 -- Assumes nothing.
-use mathlib.Core.Path.{◌≡◌, ap, ◌∙◌}
+use mathlib.Core.Path.{◌≡◌, ap}
 use mathlib.Core.Bool.{true, false}
 use mathlib.Core.List.{List}
 use Prim.Native.Nat.{ℕ, ◌*◌, ◌^◌, ◌≤◌}
@@ -9,10 +9,8 @@ use native.Mathlib.Omega.{arith}
 use borrow.Author.Tests.{ltb-true}
 use lib.ListN.{length}
 use lib.Pow.{pow_mono}
-use Rattle.spec_book.specs.Layout.{is_long, symbol_digits, word_length, book_of, field_of}
-use Rattle.spec_book.specs.Conditions.{refusal}
+use Rattle.spec_book.specs.Layout.{is_long, symbol_digits, field_of}
 use Rattle.spec_book.proofs.Known.{book_sizes, n_word_length, n_high}
-use Rattle.spec_operations.specs.Decoding.{matrix_size}
 use Rattle.book.specs.Opened.{few_symbols}
 use Rattle.book.proofs.Rooms.{matrix_most}
 use Rattle.game.specs.Rooms.{MatrixRoom, AnswersRoom}

@@ -1,4 +1,6 @@
 // A game: the messages of all words of a burst, or of none.
+#![tactic(auto)]
+
 ghost use Rattle.std.specs.Prelude.{length};
 ghost use Rattle.spec_operations.specs.Game.{game_refusal, Games};
 ghost use Rattle.game.specs.Said.{said};

@@ -37,6 +37,10 @@ pub send_number : (bytes : List ℕ) (c : Params) → Describes bytes c → (wor
 unfolding send_input_refusal
 send_number bytes c d words f room hq h = h ∙ rw (hq, d.p_is, d.n_is, d.degree_is)
 
+-- a word lies in room for any
+pub word_fits : (bytes : List ℕ) (c : Params) → Describes bytes c → {room : ℕ} → 255 ≡ room → c.n ≤ room
+word_fits bytes c d h = omega (arith, (params_sizes bytes c d).n_high, h)
+
 -- a whole call, where n was found for the book
 module _ (bytes : List ℕ) (words : ℕ) (f : List ℕ) (room : ℕ) {n : ℕ} (e : n ≡ refusal bytes) where
   pub send_refused : (n ≡ 0 → ⊥) → n ≡ send_refusal bytes words f room

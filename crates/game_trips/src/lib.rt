@@ -1,4 +1,6 @@
 // A game beside other calls: messages that were coded come back whole, and a game is Held exactly where its burst has a word that is.
+#![tactic(auto)]
+
 ghost use Rattle.std.specs.Prelude.{◌≡◌, length};
 ghost use Rattle.spec_operations.specs.Wrote.{Wrote};
 ghost use Rattle.spec_operations.specs.Burst.{burst_refusal, burst_word};

@@ -1,4 +1,6 @@
 // The matrix as an exported function, for tests alone: the C boundary keeps it behind decode.
+#![tactic(auto)]
+
 ghost use Rattle.std.specs.Prelude.{[], length};
 ghost use Rattle.spec_operations.specs.Decoding.{matrix_refusal, matrix_bytes};
 ghost use Rattle.spec_operations.specs.Packed.{Returns};

@@ -1,4 +1,6 @@
 // Results as the one number that a C caller gets: the refusal in the lowest byte, or counts and a letter in the others.
+#![tactic(auto)]
+
 ghost use Rattle.std.specs.Prelude.{◌≡◌};
 ghost use Rattle.spec_operations.specs.Packed.{result_of};
 ghost use Rattle.refusals.specs.Said as done;

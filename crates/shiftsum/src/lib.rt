@@ -1,5 +1,7 @@
 // What the C boundary offers, which the crate shiftsum_c exports: version, check, code, read, remainder, decode, burst and game on numbers and slices. The
 // matrix is a local buffer.
+#![tactic(auto)]
+
 ghost use Rattle.std.specs.Prelude.{◌≡◌, true, false, [], length};
 ghost use Rattle.spec_book.specs.Layout.{is_long};
 ghost use Rattle.spec_operations.specs.Check.{check_answer};

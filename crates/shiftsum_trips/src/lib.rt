@@ -1,5 +1,7 @@
 // What a C caller sees of two calls: each function here calls exported functions of `shiftsum`, and its contract speaks of the numbers that they return and
 // of the buffers. shiftsum_burst is not among them: it takes a slice of structs, and a call of it is proved by hand alone.
+#![tactic(auto)]
+
 ghost use Rattle.std.specs.Prelude.{◌≡◌, List, [], ℕ, length};
 ghost use Rattle.spec_book.specs.Book.{message_length};
 ghost use Rattle.spec_book.specs.Layout.{book_of};
@@ -31,13 +33,13 @@ pub fn decode_twice(
     received2: &[u8],
     answer2: &mut [u8],
 ) -> Two
-    ensures returns { Returns (decode_refusal book.now received.now (length answer.old) (matrix_size book.now))
+    ensures returns_first { Returns (decode_refusal book.now received.now (length answer.old) (matrix_size book.now))
         (values (decode_bytes book.now received.now)) (decode_bytes book.now received.now).answer
         answer.old result.first answer.new }
-    ensures returns_2 { Returns (decode_refusal book.now received2.now (length answer2.old) (matrix_size book.now))
+    ensures returns_second { Returns (decode_refusal book.now received2.now (length answer2.old) (matrix_size book.now))
         (values (decode_bytes book.now received2.now)) (decode_bytes book.now received2.now).answer
         answer2.old result.second answer2.new }
-    ensures by_index { (t c : ℕ) (v : List ℕ)
+    ensures moved { (t c : ℕ) (v : List ℕ)
         → Given book.now t c v received.now received2.now (length answer.old) (matrix_size book.now)
         (length answer2.old) (matrix_size book.now)
         → RelatedOverC book.now t c v result.first result.second answer.new answer2.new }
@@ -50,11 +52,11 @@ pub fn decode_twice(
 // Both calls return and write what the definitions say, whatever is given; and a message that is accepted is read back, written out, from the word that it was
 // coded into.
 pub fn code_then_read(book: &[u8], message: &[u8], word: &mut [u8], back: &mut [u8]) -> Two
-    ensures returns { Returns (code_refusal book.now message.now (length word.old))
+    ensures returns_there { Returns (code_refusal book.now message.now (length word.old))
         [] (coded book.now message.now) word.old result.first word.new }
-    ensures returns_2 { Returns (read_refusal book.now word.new (length back.old))
+    ensures returns_back { Returns (read_refusal book.now word.new (length back.old))
         [] (message_of book.now word.new) back.old result.second back.new }
-    ensures given_back_over_c { code_refusal book.now message.now (length word.old) ≡ 0
+    ensures given_back { code_refusal book.now message.now (length word.old) ≡ 0
         → length back.old ≡ message_length (book_of book.now)
         → GivenBackOverC result.first result.second (written_out (book_of book.now) message.now) back.new }
 {
@@ -65,11 +67,11 @@ pub fn code_then_read(book: &[u8], message: &[u8], word: &mut [u8], back: &mut [
 
 // The same the other way round: a code word that is accepted is made again from the message that was read.
 pub fn read_then_code(book: &[u8], word: &[u8], message: &mut [u8], back: &mut [u8]) -> Two
-    ensures returns { Returns (read_refusal book.now word.now (length message.old))
+    ensures returns_there { Returns (read_refusal book.now word.now (length message.old))
         [] (message_of book.now word.now) message.old result.first message.new }
-    ensures returns_2 { Returns (code_refusal book.now message.new (length back.old))
+    ensures returns_back { Returns (code_refusal book.now message.new (length back.old))
         [] (coded book.now message.new) back.old result.second back.new }
-    ensures given_back_over_c { read_refusal book.now word.now (length message.old) ≡ 0
+    ensures given_back { read_refusal book.now word.now (length message.old) ≡ 0
         → length back.old ≡ (book_of book.now).n
         → GivenBackOverC result.first result.second word.now back.new }
 {
@@ -87,11 +89,11 @@ pub fn code_twice(
     whole: &[u8],
     word2: &mut [u8],
 ) -> Two
-    ensures returns { Returns (code_refusal book.now message.now (length word.old))
+    ensures returns_first { Returns (code_refusal book.now message.now (length word.old))
         [] (coded book.now message.now) word.old result.first word.new }
-    ensures returns_2 { Returns (code_refusal book.now whole.now (length word2.old))
+    ensures returns_second { Returns (code_refusal book.now whole.now (length word2.old))
         [] (coded book.now whole.now) word2.old result.second word2.new }
-    ensures same_word_over_c { GivenWrittenOut book.now message.now whole.now (length word.old) (length word2.old)
+    ensures same_word { GivenWrittenOut book.now message.now whole.now (length word.old) (length word2.old)
         → SameWordOverC result.first result.second word.new word2.new }
 {
     let first = shiftsum::shiftsum_code(book, message, word);
@@ -108,11 +110,11 @@ pub fn remainder_twice(
     word2: &[u8],
     remainder2: &mut [u8],
 ) -> Two
-    ensures returns { Returns (remainder_refusal book.now word.now (length remainder.old))
+    ensures returns_first { Returns (remainder_refusal book.now word.now (length remainder.old))
         [] (remainder_of book.now word.now) remainder.old result.first remainder.new }
-    ensures returns_2 { Returns (remainder_refusal book.now word2.now (length remainder2.old))
+    ensures returns_second { Returns (remainder_refusal book.now word2.now (length remainder2.old))
         [] (remainder_of book.now word2.now) remainder2.old result.second remainder2.new }
-    ensures sorted_over_c { GivenTwo book.now word.now word2.now (length remainder.old) (length remainder2.old)
+    ensures sorted { GivenTwo book.now word.now word2.now (length remainder.old) (length remainder2.old)
         → SortedOverC book.now word.now word2.now result.first result.second remainder.new remainder2.new }
 {
     let first = shiftsum::shiftsum_remainder(book, word, remainder);
@@ -123,10 +125,10 @@ pub fn remainder_twice(
 // One call of game, after calls of code: it returns and writes what the definition says, whatever is given. For all messages f: where the burst is their words,
 // each as code writes it, mixed, the game is Whole and its messages are f.
 pub fn game_of_coded(book: &[u8], words: u32, received: &[u8], messages: &mut [u8]) -> u32
-    ensures returns { Returns (game_refusal book.now words received.now (length messages.old))
+    ensures returns_game { Returns (game_refusal book.now words received.now (length messages.old))
         (game_values (game_held book.now words received.now))
         (game_messages book.now words received.now messages.old) messages.old result messages.new }
-    ensures by_index { (f : List ℕ) → send_refusal book.now words f (length received.now) ≡ 0
+    ensures given_back { (f : List ℕ) → send_refusal book.now words f (length received.now) ≡ 0
         → received.now ≡ sent book.now words f → length messages.old ≡ game_size book.now words
         → BackWholeOverC result f messages.new }
 {

@@ -1,4 +1,6 @@
 // The sum of two words as an exported function, for tests and measurement alone: the C boundary keeps it behind decode.
+#![tactic(auto)]
+
 ghost use Rattle.std.specs.Prelude.{◌≡◌, cond, length};
 ghost use Rattle.sum_probe.specs.Sum.{adds, sums};
 

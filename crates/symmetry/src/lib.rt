@@ -1,4 +1,6 @@
 // Demand 3: two calls of decode, and two bursts: what each answers and writes, and how the two are related.
+#![tactic(auto)]
+
 ghost use Rattle.std.specs.Prelude.{List, ℕ, length};
 ghost use Rattle.spec_operations.specs.Decoding.{decode_refusal, decode_bytes, Decodes};
 ghost use Rattle.spec_operations.specs.Twice.{Given, Related};
@@ -30,13 +32,13 @@ pub fn decode_twice(
     answer2: &mut [u8],
     entries2: &mut [u16],
 ) -> Two
-    ensures decodes { Decodes (decode_refusal book.now received.now (length answer.old) (length entries.old))
+    ensures decodes_first { Decodes (decode_refusal book.now received.now (length answer.old) (length entries.old))
         (decode_bytes book.now received.now) answer.old entries.old (said result.first)
         answer.new entries.new }
-    ensures decodes_2 { Decodes (decode_refusal book.now received2.now (length answer2.old) (length entries2.old))
+    ensures decodes_second { Decodes (decode_refusal book.now received2.now (length answer2.old) (length entries2.old))
         (decode_bytes book.now received2.now) answer2.old entries2.old (said result.second)
         answer2.new entries2.new }
-    ensures by_index { (t c : ℕ) (v : List ℕ)
+    ensures moved { (t c : ℕ) (v : List ℕ)
         → Given book.now t c v received.now received2.now (length answer.old) (length entries.old)
         (length answer2.old) (length entries2.old)
         → Related book.now t c v (said result.first) (said result.second) answer.new answer2.new entries.new
@@ -69,13 +71,13 @@ pub fn burst_twice(
     list2: usize,
     entries2: &mut [u16],
 ) -> TwoBursts
-    ensures answered { Answered (burst_refusal book.now words received.now (length answers.old) list (length entries.old))
+    ensures answered_first { Answered (burst_refusal book.now words received.now (length answers.old) list (length entries.old))
         words (burst_word book.now words received.now) answers.old entries.old result.first answers.new
         entries.new }
-    ensures answered_2 { Answered (burst_refusal book.now words received2.now (length answers2.old) list2 (length entries2.old))
+    ensures answered_second { Answered (burst_refusal book.now words received2.now (length answers2.old) list2 (length entries2.old))
         words (burst_word book.now words received2.now) answers2.old entries2.old result.second answers2.new
         entries2.new }
-    ensures by_index { (w : ℕ → List ℕ) (t c : ℕ → ℕ) (v : ℕ → List ℕ)
+    ensures moved { (w : ℕ → List ℕ) (t c : ℕ → ℕ) (v : ℕ → List ℕ)
         → GivenBursts book.now words w t c v received.now received2.now
         → BurstSizes book.now words (length answers.old) list (length entries.old)
         → BurstSizes book.now words (length answers2.old) list2 (length entries2.old)

@@ -1,11 +1,10 @@
 -- `coder_trips::trips::read_then_code` meets its contract.
 -- Assumes nothing.
 use Rattle.spec_operations.proofs.Trips.{read_then_code}
-use borrow.Author.Rules.{rules}
 use Rattle.coder_trips.proofs.trips.read_then_code.Goals as goal
 
 pub returns : goal.returns
 returns c =
     let first = c.read-first.ensures in
     let second = c.code-second.ensures in
-    (first, (second, read_then_code _ _ _ _ first second))
+    record { wrote_there = first; wrote_back = second; given_back = read_then_code _ _ _ _ first second }

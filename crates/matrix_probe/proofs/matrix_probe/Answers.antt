@@ -1,0 +1,10 @@
+-- `matrix_probe::matrix_probe` meets its contract.
+-- Assumes nothing.
+use mathlib.Core.Path.{ap, ◌∙◌}
+use Rattle.spec_operations.specs.Packed.{result_of}
+use Rattle.matrix_probe.proofs.matrix_probe.Goals as goal
+
+pub returns : goal.returns
+returns c =
+    let h = c.matrix-done.ensures in
+    record { returns = c.pack_done.ensures ∙ ap result_of h.says; buffer = h.buffer }

@@ -1,0 +1,26 @@
+-- `shiftsum::decode_few` meets its contract.
+-- Assumes nothing.
+use mathlib.Core.Path.{sym, subst}
+use Prim.Native.Nat.{◌≤◌}
+use native.Mathlib.Omega.{arith}
+use lib.ListN.{length}
+use lib.Seq.{length-take-le}
+use Rattle.book.specs.Opened.{MatrixBound}
+use Rattle.shiftsum.proofs.Room.{decoded_into}
+use Rattle.shiftsum.proofs.decode_few.Goals as goal
+
+pub slice_bounds-room-end : goal.slice_bounds-room-end
+slice_bounds-room-end c = (let fact : c.matrix_bound-size.result ≤ length c.few_room-room.result = omega (arith, c.matrix_bound-size.ensures.few_short c.requires.0 c.requires.1, c.few_room-room.ensures) in fact)
+
+pub slice_bounds-decode_short-end : goal.slice_bounds-decode_short-end
+slice_bounds-decode_short-end c = sym (length-take-le _ _ ((let fact : c.matrix_bound-size.result ≤ length c.few_room-room.result = omega (arith, c.matrix_bound-size.ensures.few_short c.requires.0 c.requires.1, c.few_room-room.ensures) in fact)))
+
+pub decode_short-requires : goal.decode_short-requires
+decode_short-requires c = c.requires.1
+
+pub returns : goal.returns
+returns c =
+    let called = c in
+    let made = called in
+    let exact = length-take-le _ _ ((let at_made = made in let fact : at_made.matrix_bound-size.result ≤ length at_made.few_room-room.result = omega (arith, at_made.matrix_bound-size.ensures.few_short at_made.requires.0 at_made.requires.1, at_made.few_room-room.ensures) in fact)) in
+    decoded_into _ _ _ (subst (MatrixBound _) (sym exact) made.matrix_bound-size.ensures) called.decode_short.ensures c.pack_decoded.ensures

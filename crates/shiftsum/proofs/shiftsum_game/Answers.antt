@@ -1,0 +1,10 @@
+-- `shiftsum::shiftsum_game` meets its contract.
+-- Assumes nothing.
+use mathlib.Core.Path.{ap, ◌∙◌}
+use Rattle.spec_operations.specs.Packed.{result_of}
+use Rattle.shiftsum.proofs.shiftsum_game.Goals as goal
+
+pub returns : goal.returns
+returns c =
+    let h = c.take.ensures in
+    record { returns = c.pack_game.ensures ∙ ap result_of h.says; buffer = h.buffer }
