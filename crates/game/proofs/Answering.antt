@@ -3,7 +3,7 @@
 use mathlib.Core.Path.{◌≡◌, refl, sym, ap, ap₂, ◌∙◌, subst}
 use mathlib.Core.List.{List, [], ◌∷◌}
 use Prim.Native.Nat.{ℕ, zero, suc, ◌-◌, ◌*◌, ◌^◌, ◌≤◌, ◌<◌}
-use native.Mathlib.Nat.{le_trans, mul-le-mul_left}
+use native.Mathlib.Nat.{le_trans, le_of_eq, mul-le-mul_left}
 use lib.Dec.{eqb}
 use lib.ListN.{length}
 use Rattle.spec_field.specs.Answer.{Answer, answer, done, refused, left}
@@ -21,11 +21,13 @@ use Rattle.spec_operations.specs.Game.{game_letter, game_values, game_input_refu
 use Rattle.spec_operations.specs.GameTrips.{held_records}
 use Rattle.spec_operations.proofs.Wrote.{left_refused, left_done}
 use Rattle.spec_operations.proofs.Burst.{burst_taken}
-use Rattle.spec_operations.proofs.Game.{TakenGame, held_records_lem, game-answer, game-read}
+use Rattle.spec_operations.proofs.Game.{TakenGame, taken_game, held_records_lem, game-answer, game-read}
 use Rattle.book.specs.Params.{Describes}
 use Rattle.book.specs.declared.Params.{Params}
 use Rattle.burst.specs.Said.{made_bytes, counted, Answered}
 use Rattle.burst.specs.declared.Burst.{Burst}
+use Rattle.burst.proofs.Answering.{matrix_sized}
+use Rattle.game.specs.Rooms.{MatrixRoom, AnswersRoom}
 use Rattle.game.specs.Words.{Readable, messages_in}
 
 -- ---- the three ends of a call
@@ -63,6 +65,12 @@ pub game_number : (bytes : List ℕ) (c : Params) → Describes bytes c → (wor
 unfolding game_input_refusal
 game_number bytes c d words r room h hq = h ∙ rw (hq, d.p_is, d.n_is, d.degree_is)
 
+-- and where it is 0, the game is taken
+pub game_taken : (bytes : List ℕ) (c : Params) → Describes bytes c → (words : ℕ) (r : List ℕ) (room : ℕ) {number q : ℕ}
+    → number ≡ unless (words_ok words) 14 (input_refusal q (eqb (length r) (c.n * words)) (eqb room ((c.n - c.degree) * words)) r) → q ≡ 2 ^ c.p
+    → number ≡ 0 → TakenGame bytes words r room
+game_taken bytes c d words r room h hq z = taken_game bytes words r room (sym (game_number bytes c d words r room h hq) ∙ z)
+
 -- of the whole call; it may be written another way
 pub games_same : {bytes : List ℕ} {k k' words : ℕ} {r old messages : List ℕ} {a : Answer} → k ≡ k' → Games bytes k words r old a messages
     → Games bytes k' words r old a messages
@@ -79,10 +87,18 @@ module _ (bytes : List ℕ) (words : ℕ) (r : List ℕ) (room : ℕ) {n : ℕ} 
 
 -- ---- a game that is taken
 
+-- its matrices have room
+pub matrix_fits : (bytes : List ℕ) (c : Params) → Describes bytes c → {entries : List ℕ} → MatrixRoom bytes entries → {size : ℕ} → size ≡ 2 ^ c.p * c.n → size ≤ length entries
+matrix_fits bytes c d room e = le_trans (le_of_eq (e ∙ matrix_sized bytes c d)) (room.matrix_long d.accepted)
+
 module _ (bytes : List ℕ) (ok : refusal bytes ≡ 0) (words : ℕ) (r : List ℕ) {room : ℕ} (h : TakenGame bytes words r room) where
   -- sixteen words have room
   pub room_enough : {size : ℕ} → (book_of bytes).n * 16 ≤ size → burst_size bytes words ≤ size
   room_enough l = le_trans (mul-le-mul_left (book_of bytes).n (words_high words h.count)) l
+
+  -- so its answer words have it
+  pub answers_fit : (c : Params) → Describes bytes c → {answers : List ℕ} → AnswersRoom bytes answers → c.n * words ≤ length answers
+  answers_fit c d a = le_trans (le_of_eq (ap (λ (n : ℕ). n * words) d.n_is)) (room_enough (a.answers_long ok))
 
   -- its burst is not refused, and this is what it answers and leaves
   pub record DecodedGame (made : Burst) (answers : List ℕ) : Type 0 where

@@ -9,29 +9,23 @@ use Rattle.burst.specs.Said.{made_bytes}
 use Rattle.game.proofs.Held.{byte_le, held_more, held_le}
 use Rattle.game.proofs.taking.held.Goals as goal
 
--- src/taking.rt:22:5
 pub loop-m-init : goal.loop-m-init
 unfolding fold
 loop-m-init c = (omega arith, refl)
 
--- src/taking.rt:24:17
 pub overflow_cast-held : goal.overflow_cast-held
 overflow_cast-held c = tt
 
--- src/taking.rt:24:9
 pub overflow_add-held : goal.overflow_add-held
 overflow_add-held c =
-    let start = c in
     let l = c.loop-m in
-    omega (arith, l.invariant.1, held_le l.m (made_bytes start.args.made), byte_le c.is_held.result, start.requires)
+    omega (arith, l.invariant.1, held_le l.m (made_bytes c.args.made), byte_le c.is_held.result, c.requires)
 
--- src/taking.rt:22:5
 pub loop-m-preserved : goal.loop-m-preserved
 loop-m-preserved c =
     let l = c.loop-m.invariant in
     (omega (arith, c.loop-m-test.true), held_more c.args.made _ c.loop-m-test.true l.1 c.record_at-x.ensures c.is_held.ensures)
 
--- src/taking.rt:16:1
 pub returns : goal.returns
 returns c =
     let l = c.loop-m.invariant in

@@ -9,9 +9,8 @@ use Rattle.game.proofs.words.game_opened.Goals as goal
 
 pub game_words-requires : goal.game_words-requires
 game_words-requires c =
-    let o = c in
-    let h = o.requires in
-    let open_book = opens_open _ _ _ h.0 o.in-Open.is in
+    let h = c.requires in
+    let open_book = opens_open _ _ _ h.0 c.in-Open.is in
     (open_book.0, open_book.1, listed_room _ h.1 open_book.0, h.2, h.3)
 
 pub returns-in-Refused : goal.returns-in-Refused
@@ -22,7 +21,5 @@ returns-in-Refused c =
 
 pub returns-in-Open : goal.returns-in-Open
 returns-in-Open c =
-    let g = c in
-    let o = g in
-    let open_book = opens_open _ _ _ o.requires.0 o.in-Open.is in
-    games_same (game_accepted _ _ _ _ refl open_book.0.accepted) g.game_words.ensures
+    let open_book = opens_open _ _ _ c.requires.0 c.in-Open.is in
+    games_same (game_accepted _ _ _ _ refl open_book.0.accepted) c.game_words.ensures

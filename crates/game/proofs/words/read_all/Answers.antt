@@ -1,6 +1,7 @@
 -- `game::words::read_all` meets its contract. The invariant is `ReadSoFar`: what stands after m words.
 -- Assumes nothing.
 use mathlib.Core.Path.{◌≡◌, ap, ◌∙◌}
+use borrow.Author.Rules.{rules}
 use Prim.Native.Nat.{ℕ, ◌+◌, ◌*◌, ◌-◌}
 use lib.ListN.{take, drop}
 use native.Mathlib.Omega.{arith}
@@ -41,16 +42,15 @@ read_word-requires c = c.requires.0
 
 pub loop-m-preserved : goal.loop-m-preserved
 loop-m-preserved c =
-    let called = c in
-    let turn = called in
-    let start = turn in
-    let m = turn.loop-m.m in
-    let within = part_within m _ called.loop-m-test.true start.requires.2 in
-    let n = start.args.c.n in
+    let h = c.requires in
+    let a = c.args in
+    let m = c.loop-m.m in
+    let n = a.c.n in
+    let below = c.loop-m-test.true in
     let whole : m * n + n - m * n ≡ n = omega arith in
-    let word = ap (λ (k : ℕ). take k (drop (m * n) start.args.answers.now)) whole ∙ part_taken n start.args.answers.now m within in
-    one_more _ _ _ _ _ (omega arith) called.loop-m-test.true word (omega (arith, called.read_word-arg-in-loop-m-1.given.1))
-    turn.loop-m.invariant c.messages-1.given.1 called.read_word.ensures
+    let word = ap (λ (k : ℕ). take k (drop (m * n) a.answers.now)) whole ∙ part_taken n a.answers.now m (part_within m _ below h.2) in
+    one_more _ _ _ _ _ (omega arith) below word (omega arith) c.loop-m.invariant (search rules)
+    c.read_word.ensures
 
 pub shape_of-messages : goal.shape_of-messages
 shape_of-messages c = c.loop-m.invariant.same
