@@ -1,5 +1,7 @@
 // The program as a machine that takes standard input in pieces: what each piece prints.
 // `step` asks for a state and rooms as `start` and `step` leave them: it is for a caller that passes on what it was given.
+#![tactic(auto)]
+
 ghost use Rattle.std.specs.Prelude.{◌≡◌};
 ghost use Rattle.stream_state.specs.declared.Phase.TheVariants.{Opening};
 ghost use Rattle.stream_state.specs.State.{Sound};

@@ -2,7 +2,7 @@
 -- Assumes nothing.
 use mathlib.Core.Path.{◌≡◌, sym, ap, ap₂, subst, ◌∙◌}
 use mathlib.Core.List.{List, ◌++◌, append-nil}
-use Prim.Native.Nat.{ℕ, ◌+◌, ◌-◌, ◌≤◌, ◌<◌}
+use Prim.Native.Nat.{ℕ, ◌+◌, ◌≤◌, ◌<◌}
 use native.Mathlib.Decide.{dec_lt}
 use native.Mathlib.Omega.{arith}
 use lib.ListN.{length, take, drop, length-drop}
@@ -13,7 +13,6 @@ use Rattle.spec_program.proofs.Opening.{opening_line, refused_phase, opened_is}
 use Rattle.book.specs.declared.Params.{Params}
 use Rattle.stream_text.specs.Printed.{Printed}
 use Rattle.sizes.proofs.Lengths.{blocks_high}
-use Rattle.word_array.specs.Stored.{place}
 use Rattle.matrix_terms.specs.Terms.{unlisted, weight_in}
 use Rattle.decode_rounds.specs.Rounds.{TermsRoom}
 use Rattle.stream_state.specs.declared.Phase.{Phase}

@@ -1,4 +1,6 @@
 // The opening of standard input: the codebook's length and the codebook.
+#![tactic(auto)]
+
 ghost use Rattle.std.specs.Prelude.{◌≡◌, ◌≤◌, ◌<◌, length, take};
 ghost use Rattle.spec_program.specs.Output.{book_length};
 ghost use Rattle.stream_text.specs.Printed.{Printed};

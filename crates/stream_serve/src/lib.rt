@@ -1,4 +1,6 @@
 // The words that follow an accepted codebook.
+#![tactic(auto)]
+
 ghost use Rattle.std.specs.Prelude.{◌≡◌, ◌+◌, ◌*◌, ◌≤◌, ◌<◌, length};
 ghost use Rattle.spec_program.specs.Output.{most_words};
 ghost use Rattle.stream_words.specs.Ready.{Ready};

@@ -1,4 +1,6 @@
 // Where a run of the program stands between two pieces of standard input, and the parts of the input that come in pieces.
+#![tactic(auto)]
+
 ghost use Rattle.std.specs.Prelude.{◌≡◌, List, ℕ, length};
 ghost use Rattle.spec_program.specs.Machine as machine;
 ghost use Rattle.stream_state.specs.State.{state_of, Sound};

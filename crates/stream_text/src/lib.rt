@@ -1,4 +1,6 @@
 // The program's lines as text in a lent buffer: each function writes from index `at` on and returns the index past what it wrote.
+#![tactic(auto)]
+
 ghost use Rattle.std.specs.Prelude.{◌≡◌, ◌∷◌, [], ◌+◌, ◌*◌, ◌≤◌, ◌<◌, length};
 ghost use Rattle.spec_program.specs.Line.{glyph, decimal_of, hex_of, answer_line, refusal_line};
 ghost use Rattle.stream_text.specs.Printed.{Printed};

@@ -1,4 +1,6 @@
 // The turns of a run, each of which reads a piece of standard input: which is the last, how many there are, and what the end of input prints.
+#![tactic(auto)]
+
 ghost use Rattle.std.specs.Prelude.{◌≡◌, ◌≤◌, ◌<◌, length};
 ghost use Rattle.spec_program.specs.Machine as machine;
 ghost use Rattle.stream_text.specs.Printed.{Printed};

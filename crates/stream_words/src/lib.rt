@@ -1,4 +1,6 @@
 // The lines of words, as text in a lent buffer.
+#![tactic(auto)]
+
 ghost use Rattle.std.specs.Prelude.{◌≡◌, ◌+◌, ◌*◌, ◌≤◌, length};
 ghost use Rattle.decode_rounds.specs.Rounds.{TermsRoom};
 ghost use Rattle.stream_text.specs.Printed.{Printed};

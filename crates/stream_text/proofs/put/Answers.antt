@@ -1,7 +1,6 @@
 -- `stream_text::put` meets its contract.
 -- Assumes nothing.
 use Rattle.stream_text.proofs.Printing.{printed_one}
-use borrow.Author.Rules.{rules}
 use Rattle.stream_text.proofs.put.Goals as goal
 
 pub returns : goal.returns

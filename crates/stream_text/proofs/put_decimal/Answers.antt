@@ -7,7 +7,6 @@ use native.Mathlib.Omega.{arith}
 use borrow.Author.Tests.{le-ltb}
 use Rattle.spec_program.specs.Line.{decimal_of}
 use Rattle.stream_text.proofs.Printing.{printed_then}
-use borrow.Author.Rules.{rules}
 use Rattle.stream_text.proofs.put_decimal.Goals as goal
 
 three-digits : (x : ℕ) → 100 ≤ x → decimal_of x ≡ (48 + x / 100) ∷ (48 + x / 10 % 10) ∷ (48 + x % 10) ∷ []
@@ -15,10 +14,8 @@ unfolding decimal_of
 three-digits x h = simp (le-ltb x 10 (omega arith), le-ltb x 100 h)
 
 pub returns : goal.returns
-returns c =
-    let third = c in
-    let second = third in
-    let first = second in (
-      rw (three-digits _ first.if-x-lt100.false) (printed_then (printed_then first.put-first.ensures second.put-second.ensures) third.put.ensures),
-      omega (arith, first.put-first.ensures.past, second.put-second.ensures.past, third.put.ensures.past),
-    )
+returns c = record {
+  printed =
+      rw (three-digits _ c.if-x-lt100.false) (printed_then (printed_then c.put-first.ensures c.put-second.ensures) c.put.ensures);
+  upper_bound = omega (arith, c.put-first.ensures.past, c.put-second.ensures.past, c.put.ensures.past);
+}

@@ -2,13 +2,9 @@
 -- Assumes nothing.
 use mathlib.Core.Path.{◌≡◌}
 use Prim.Native.Nat.{◌+◌, ◌*◌, ◌-◌, ◌≤◌}
-use native.Mathlib.Omega.{arith}
 use lib.ListN.{length, take}
-use lib.Seq.{take-length}
 use Rattle.spec_program.specs.Line.{hex_of}
-use Rattle.stream_text.proofs.Hex.{hex_of_suc}
 use Rattle.stream_text.specs.Printed.{Printed}
-use Rattle.stream_text.proofs.Printing.{printed_none, printed_then}
 use Rattle.stream_text.proofs.put_hex.Given as goal
 
 abbrev pub invariant-loop-i : goal.invariant-loop-i

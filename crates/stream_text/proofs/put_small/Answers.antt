@@ -7,7 +7,6 @@ use native.Mathlib.Omega.{arith}
 use borrow.Author.Tests.{lt-ltb, le-ltb}
 use Rattle.spec_program.specs.Line.{decimal_of}
 use Rattle.stream_text.proofs.Printing.{printed_then}
-use borrow.Author.Rules.{rules}
 use Rattle.stream_text.proofs.put_small.Goals as goal
 
 one-digit : (x : ℕ) → x < 10 → decimal_of x ≡ (48 + x) ∷ []
@@ -19,11 +18,14 @@ unfolding decimal_of
 two_digits x h l = simp (le-ltb x 10 h, lt-ltb x 100 l)
 
 pub returns-then-x-lt10 : goal.returns-then-x-lt10
-returns-then-x-lt10 c = (rw (one-digit _ c.if-x-lt10.true) c.put.ensures, omega arith)
+returns-then-x-lt10 c = record {
+  printed = rw (one-digit _ c.if-x-lt10.true) c.put.ensures;
+  upper_bound = omega arith;
+}
 
 pub returns : goal.returns
-returns c = (
-  rw (two_digits _ c.if-x-lt10.false (omega arith)) (printed_then
-      c.put-next.ensures c.put-2.ensures),
-  omega arith,
-)
+returns c = record {
+  printed =
+      rw (two_digits _ c.if-x-lt10.false (omega arith)) (printed_then c.put-next.ensures c.put-2.ensures);
+  upper_bound = omega arith;
+}

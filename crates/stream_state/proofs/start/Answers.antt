@@ -5,14 +5,9 @@ use mathlib.Core.List.{[]}
 use native.Mathlib.Omega.{arith}
 use Rattle.spec_program.proofs.Opening.{verdict_short_field}
 use Rattle.stream_state.specs.State.{state_of}
-use borrow.Author.Rules.{rules}
-use Rattle.stream_state.proofs.start.Statement.{statement}
-use Rattle.stream_state.proofs.start.Tie as tie
+use Rattle.stream_state.proofs.start.Goals as goal
 
-book-room-requires : tie.Need-book-room-requires
-book-room-requires c κs = search rules
-
-returns : tie.Need-returns
+pub returns : goal.returns
 unfolding state_of
 returns c = (
   refl,
@@ -21,7 +16,7 @@ returns c = (
         sized =
             record {
               field_size = refl;
-              book_size = sym c.book-room.ensures;
+              book_size = sym c.book_room-book.ensures;
               begun_size = refl;
               got_le = omega arith;
               came_le = omega arith;
@@ -32,6 +27,3 @@ returns c = (
         in_phase = record { coming = verdict_short_field [] [] (omega arith); fits = omega arith; none_counted = refl; none_held = refl };
       },
 )
-
-pub start_spec : {M : Type 1} → statement M
-start_spec = tie.close (tie.spec book-room-requires returns)

@@ -1,0 +1,39 @@
+-- `stream_open::open_with` meets its contract: what joins the field and the codebook is what the machine takes.
+-- Assumes nothing.
+use mathlib.Core.Path.{sym, ◌∙◌}
+use native.Mathlib.Omega.{arith}
+use lib.ListN.{length-set}
+use lib.Seq.{length-take-le, get_or-set_same}
+use Rattle.stream_state.proofs.Pieces.{rest_is}
+use Rattle.stream_state.proofs.Phases.{in_opening}
+use Rattle.stream_open.proofs.Taking.{came_wanted, opens}
+use Rattle.stream_open.proofs.open_with.Goals as goal
+
+pub fill-body-requires : goal.fill-body-requires
+fill-body-requires c =
+    let wants = c.wanted-size.ensures in
+    let waiting = in_opening c.args.s _ _ c.requires.0 c.requires.1 in
+    let came = came_wanted c.args.s waiting c.requires.0.sized c.fill-head.ensures in
+    (omega (arith, wants.0), omega (arith, wants.1))
+
+pub slice_bounds-judge-end : goal.slice_bounds-judge-end
+slice_bounds-judge-end c = sym (length-take-le _ _ (omega arith))
+
+pub put_told-end-requires : goal.put_told-end-requires
+put_told-end-requires c = (c.judge-told.ensures.sayable, omega (arith, c.requires.2))
+
+pub bounds-terms-0 : goal.bounds-terms-0
+bounds-terms-0 c = omega (arith, c.requires.0.terms_size)
+
+pub overflow_add-result : goal.overflow_add-result
+overflow_add-result c = omega (arith, c.fill-body.ensures.joined.within, c.fill-head.ensures.joined.within)
+
+pub returns : goal.returns
+returns c =
+    let wants = c.wanted-size.ensures in
+    let waiting = in_opening c.args.s _ _ c.requires.0 c.requires.1 in
+    let grown = rw (rest_is c.args.piece.now c.fill-head.result) at c.fill-body.ensures in
+    opens c.args.s waiting c.requires.0.sized c.fill-head.ensures c.requires.1 wants.0 wants.1 grown
+    c.settled.ensures c.judge-told.ensures c.put_told-end.ensures.0 c.put_told-end.ensures.1 c.requires.2
+    (omega (arith, c.requires.0.table_size)) (length-set c.args.terms.now 0 0 ∙ c.requires.0.terms_size)
+    (get_or-set_same c.args.terms.now 0 0 0 (omega (arith, c.requires.0.terms_size)))

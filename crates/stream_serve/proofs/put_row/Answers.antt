@@ -1,0 +1,54 @@
+-- `stream_serve::put_row` meets its contract: the row is full, or what is left begins a word.
+-- Assumes nothing.
+use mathlib.Core.Path.{sym}
+use Prim.Native.Nat.{◌*◌}
+use native.Mathlib.Omega.{arith}
+use lib.Seq.{length-take-le}
+use Rattle.book.proofs.Described.{params_sizes}
+use Rattle.stream_state.proofs.Pieces.{rest_is}
+use Rattle.stream_serve.proofs.Rows.{row_fits, row-full, row-rest}
+use Rattle.stream_serve.proofs.put_row.Goals as goal
+
+pub whole_words-words-requires : goal.whole_words-words-requires
+whole_words-words-requires c = (omega arith, omega (arith, c.requires.1.held_lt))
+
+pub overflow_mul-size : goal.overflow_mul-size
+overflow_mul-size c =
+    let fits = row_fits c.args.book.now c.args.c c.requires.0.describes c.args.a c.requires.3 c.args.piece.now c.requires.2 c.requires.1
+    c.whole_words-words.ensures in
+    omega arith
+
+pub slice_bounds-put_words-end : goal.slice_bounds-put_words-end
+slice_bounds-put_words-end c =
+    let fits = row_fits c.args.book.now c.args.c c.requires.0.describes c.args.a c.requires.3 c.args.piece.now c.requires.2 c.requires.1
+    c.whole_words-words.ensures in
+    sym (length-take-le _ _ fits)
+
+pub put_words-end-requires : goal.put_words-end-requires
+put_words-end-requires c =
+    let fits = row_fits c.args.book.now c.args.c c.requires.0.describes c.args.a c.requires.3 c.args.piece.now c.requires.2 c.requires.1
+    c.whole_words-words.ensures in
+    let size = length-take-le (c.whole_words-words.result * c.args.c.n) c.args.piece.now fits in
+    (c.requires.0, size, omega arith)
+
+pub returns-then-count-eq-MOST : goal.returns-then-count-eq-MOST
+returns-then-count-eq-MOST c =
+    row-full c.args.book.now c.args.c c.requires.0.describes c.args.a c.requires.3 c.args.piece.now c.requires.2 c.requires.1
+    c.whole_words-words.ensures c.put_words-end.ensures.0 c.put_words-end.ensures.1 c.put_words-end.ensures.2 c.if-count-eq-MOST.true
+
+pub slice_bounds-fill-count : goal.slice_bounds-fill-count
+slice_bounds-fill-count c =
+    let fits = row_fits c.args.book.now c.args.c c.requires.0.describes c.args.a c.requires.3 c.args.piece.now c.requires.2 c.requires.1
+    c.whole_words-words.ensures in
+    omega arith
+
+pub fill-held-requires : goal.fill-held-requires
+fill-held-requires c =
+    (omega arith, omega (arith, c.requires.1.begun_size, (params_sizes _ _ c.requires.0.describes).n_high))
+
+pub returns : goal.returns
+returns c =
+    let size = c.whole_words-words.result * c.args.c.n in
+    row-rest c.args.book.now c.args.c c.requires.0.describes c.args.a c.requires.3 c.args.piece.now c.requires.2 c.requires.1
+    c.whole_words-words.ensures c.put_words-end.ensures.0 c.put_words-end.ensures.1 c.put_words-end.ensures.2 c.if-count-eq-MOST.false
+    (rw (rest_is c.args.piece.now size) at c.fill-held.ensures)
