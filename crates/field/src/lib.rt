@@ -88,6 +88,7 @@ pub fn inv(p: u8, a: u8) -> u8
 }
 
 // The first refusal that applies to p, `a` and `b`, or 0.
+#[tactic(auto, unfolding(spec_field::specs::Operations::field_refusal))]
 fn refusal(p: u8, a: u8, b: u8) -> u8
     ensures { result ≡ field_refusal p a b }
 {

@@ -3,6 +3,8 @@
 use mathlib.Core.Path.{ap, ◌∙◌, sym}
 use mathlib.Core.List.{[], ◌∷◌}
 use Prim.Native.Nat.{ℕ}
+use borrow.Author.Rules.{rules}
+use native.Mathlib.Omega.{arith}
 use Rattle.spec_field.specs.Answer.{done}
 use Rattle.spec_field.proofs.Refusals.{accepted, answers_refused, answers_done}
 use Rattle.field.proofs.product.Goals as goal
@@ -13,7 +15,7 @@ returns-then-n-ne0 c = answers_refused _ _ _ c.refusal-n.ensures c.if-n-ne0.true
 pub mul-requires : goal.mul-requires
 mul-requires c = let s = c.args in
     let h = accepted s.p s.a s.b (sym c.refusal-n.ensures ∙ c.if-n-ne0.false) in
-    (h.low, h.high, h.left, h.right)
+    (h.low, h.high, omega (arith, h.left, h.right), omega (arith, h.left, h.right))
 
 pub returns : goal.returns
 returns c =

@@ -5,28 +5,24 @@ use native.Mathlib.Omega.{arith}
 use Rattle.spec_field.specs.Operations.{field_refusal}
 use Rattle.field.proofs.refusal.Goals as goal
 
-pub returns-then-p-eq0 : goal.returns-then-p-eq0
-unfolding field_refusal
-returns-then-p-eq0 c = simp (eq-eqb _ _ c.if-p-eq0.true)
-
 pub returns-then-p-gt6 : goal.returns-then-p-gt6
 unfolding field_refusal
-returns-then-p-gt6 c = simp (ne_eqb _ _ c.if-p-eq0.false, lt-ltb _ _ c.if-p-gt6.true)
+returns-then-p-gt6 c = simp (ne_eqb c.args.p 0 (omega arith), lt-ltb _ _ c.if-p-gt6.true)
 
 pub returns-then-q-a : goal.returns-then-q-a
 unfolding field_refusal
 returns-then-q-a c = let e = c in
     let s = e.args in
-    simp (ne_eqb _ _ e.if-p-eq0.false, le-ltb _ _ e.if-p-gt6.false, le-leb (2 ^ s.p) s.a (omega arith))
+    simp (ne_eqb s.p 0 (omega arith), le-ltb _ _ e.if-p-gt6.false, le-leb (2 ^ s.p) s.a (omega arith))
 
 pub returns-then-q-b : goal.returns-then-q-b
 unfolding field_refusal
 returns-then-q-b c = let e = c in
     let s = e.args in
-    simp (ne_eqb _ _ e.if-p-eq0.false, le-ltb _ _ e.if-p-gt6.false, lt-leb (2 ^ s.p) s.a (omega arith), le-leb (2 ^ s.p) s.b (omega arith))
+    simp (ne_eqb s.p 0 (omega arith), le-ltb _ _ e.if-p-gt6.false, lt-leb (2 ^ s.p) s.a (omega arith), le-leb (2 ^ s.p) s.b (omega arith))
 
 pub returns : goal.returns
 unfolding field_refusal
 returns c = let e = c in
     let s = e.args in
-    simp (ne_eqb _ _ e.if-p-eq0.false, le-ltb _ _ e.if-p-gt6.false, lt-leb (2 ^ s.p) s.a (omega arith), lt-leb (2 ^ s.p) s.b (omega arith))
+    simp (ne_eqb s.p 0 (omega arith), le-ltb _ _ e.if-p-gt6.false, lt-leb (2 ^ s.p) s.a (omega arith), lt-leb (2 ^ s.p) s.b (omega arith))
