@@ -3,7 +3,6 @@
 use mathlib.Core.Path.{ap, ◌∙◌, sym}
 use mathlib.Core.List.{[], ◌∷◌}
 use Prim.Native.Nat.{ℕ}
-use borrow.Author.Rules.{rules}
 use native.Mathlib.Omega.{arith}
 use Rattle.spec_field.specs.Answer.{done}
 use Rattle.spec_field.proofs.Refusals.{accepted, answers_refused, answers_done}

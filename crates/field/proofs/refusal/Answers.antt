@@ -1,6 +1,6 @@
 -- `field::refusal` meets its contract. Assumes nothing.
 use Prim.Native.Nat.{◌^◌}
-use borrow.Author.Tests.{eq-eqb, ne_eqb, lt-ltb, le-ltb, le-leb, lt-leb}
+use borrow.Author.Tests.{ne_eqb, lt-ltb, le-ltb, le-leb, lt-leb}
 use native.Mathlib.Omega.{arith}
 use Rattle.spec_field.specs.Operations.{field_refusal}
 use Rattle.field.proofs.refusal.Goals as goal
