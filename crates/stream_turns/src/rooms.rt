@@ -37,7 +37,7 @@ pub fn text() -> [u8; TEXT]
     [0; TEXT]
 }
 
-// Enough turns for all the input that matters: after so many full pieces the run has ended (proofs/Turns.antt: turns-over).
+// Enough turns for all the input that matters: after so many full pieces the run has ended (proofs/Turns.antt: turns_over).
 pub fn turns() -> usize
     ensures { result ≡ turns }
 {
