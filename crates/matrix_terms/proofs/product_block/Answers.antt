@@ -7,6 +7,12 @@ use Rattle.matrix_terms.proofs.Summing.{wide_fits, Summing, summing_none, summin
 use borrow.Author.Rules.{rules}
 use Rattle.matrix_terms.proofs.product_block.Goals as goal
 
+pub loop-i-preserved : goal.loop-i-preserved
+loop-i-preserved c =
+    let s = c in
+    let pre = s.requires in
+    summing_more s.loop-i.invariant s.loop-i-test.true (omega (arith, start_is pre.0 _ pre.1 s.loop-i-test.true)) c.add_block.ensures
+
 pub bounds-terms-0 : goal.bounds-terms-0
 bounds-terms-0 c = c.requires.0.long
 
@@ -51,12 +57,6 @@ add_block-requires c =
     let s = c in
     let pre = s.requires in
     (omega (arith, start_in pre.0 _ pre.1 s.loop-i-test.true, pre.3), s.loop-i.invariant.long)
-
-pub loop-i-preserved : goal.loop-i-preserved
-loop-i-preserved c =
-    let s = c in
-    let pre = s.requires in
-    summing_more s.loop-i.invariant s.loop-i-test.true (omega (arith, start_is pre.0 _ pre.1 s.loop-i-test.true)) c.add_block.ensures
 
 pub returns : goal.returns
 returns c = summing_end c.loop-i.invariant c.loop-i-test.false
