@@ -14,6 +14,19 @@ use Rattle.sizes.proofs.Lengths.{blocks_high}
 use borrow.Author.Rules.{rules}
 use Rattle.decode.proofs.matrix_word.Goals as goal
 
+pub returns : goal.returns
+returns c =
+    let looked = c in
+    let start = looked in
+    let d = start.requires in
+    let exact = eqb (length start.args.entries.now) looked.matrix_size.result in
+    let z = c.if-number-ne0.false in
+    let asked = looked.refusal-number.ensures in
+    let q = looked.order.ensures in
+    wrote_made (sym (matrix_number _ _ d _ _ asked q looked.matrix_size.ensures) ∙ z)
+    (matrix_made _ _ d start.args.received.now (input-listed _ _ d start.args.received.now exact asked q z) c.load-r.ensures
+    (c.fill.ensures _ (params_fillable _ _ d) c.list.ensures.0))
+
 pub matrix_size-requires : goal.matrix_size-requires
 matrix_size-requires c = let s = params_sizes _ _ c.requires in (s.p_high, s.n_high)
 
@@ -54,16 +67,3 @@ fill-requires c =
       whole_steps ok,
       whole_few ok,
     )
-
-pub returns : goal.returns
-returns c =
-    let looked = c in
-    let start = looked in
-    let d = start.requires in
-    let exact = eqb (length start.args.entries.now) looked.matrix_size.result in
-    let z = c.if-number-ne0.false in
-    let asked = looked.refusal-number.ensures in
-    let q = looked.order.ensures in
-    wrote_made (sym (matrix_number _ _ d _ _ asked q looked.matrix_size.ensures) ∙ z)
-    (matrix_made _ _ d start.args.received.now (input-listed _ _ d start.args.received.now exact asked q z) c.load-r.ensures
-    (c.fill.ensures _ (params_fillable _ _ d) c.list.ensures.0))
