@@ -30,6 +30,7 @@ pub fn refusal(book: &[u8]) -> u8
 }
 
 // 1: the length is one of the form that the generator's kind chooses; of either form where it chooses none.
+#[tactic(auto, unfolding(spec_book::specs::Conditions::length_ok))]
 fn length_ok(book: &[u8]) -> bool
     ensures { result ≡ length_ok book.now }
 {

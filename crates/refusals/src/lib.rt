@@ -12,6 +12,7 @@ pub enum Done {
 }
 
 // Whether a burst has 1 to 16 words.
+#[tactic(auto, unfolding(spec_book::specs::Conditions::words_ok))]
 pub fn words_ok(words: u32) -> bool
     ensures { result ≡ words_ok words }
 {
@@ -19,6 +20,7 @@ pub fn words_ok(words: u32) -> bool
 }
 
 // Whether a message has 1 to k symbols.
+#[tactic(auto, unfolding(spec_book::specs::Conditions::message_fits))]
 pub fn message_fits(k: usize, size: usize) -> bool
     ensures { result ≡ message_fits k size }
 {

@@ -15,6 +15,28 @@ use borrow.Author.Rules.{rules}
 use Rattle.std.proofs.lemmas.Bool.{not_from_true, not_from_false}
 use Rattle.coder.proofs.read_word.Goals as goal
 
+pub returns : goal.returns
+returns c =
+    let s = c in
+    let z = c.if-number-ne0.false in
+    λ bytes b.
+    let a = s.args in
+    let i = taken a.word.now (length a.message.now) s.order-q.ensures s.refusal-number.ensures z in
+    let divided = c.divide.ensures in
+    let tested = word-tested b _ divided c.is_zero.ensures refl in
+    wrote_made
+    (code-word _ _ _ (read_number b _ _ s.order-q.ensures s.refusal-number.ensures) z tested (not-false _ (not_from_true _ c.if-not-is_zero.false)))
+    (word_read b _ divided i.room_is c.store.ensures)
+
+pub returns-then-not-is_zero : goal.returns-then-not-is_zero
+returns-then-not-is_zero c =
+    let s = c in
+    λ bytes b.
+    let tested = word-tested b _ c.divide.ensures c.is_zero.ensures refl in
+    wrote_refused
+    (no-code-word _ _ _ (read_number b _ _ s.order-q.ensures s.refusal-number.ensures) c.if-number-ne0.false tested (not-true _ (not_from_false _ c.if-not-is_zero.true)) refl)
+    (λ e. absurd (omega arith))
+
 pub overflow_sub-k : goal.overflow_sub-k
 overflow_sub-k c = omega (arith, degree_high _ _ c.requires.open_book.describes)
 
@@ -55,15 +77,6 @@ is_zero-requires c =
     let room = c.room-remainder.ensures in
     (omega arith, omega (arith, room, c.divide.auto))
 
-pub returns-then-not-is_zero : goal.returns-then-not-is_zero
-returns-then-not-is_zero c =
-    let s = c in
-    λ bytes b.
-    let tested = word-tested b _ c.divide.ensures c.is_zero.ensures refl in
-    wrote_refused
-    (no-code-word _ _ _ (read_number b _ _ s.order-q.ensures s.refusal-number.ensures) c.if-number-ne0.false tested (not-true _ (not_from_false _ c.if-not-is_zero.true)) refl)
-    (λ e. absurd (omega arith))
-
 pub store-requires : goal.store-requires
 store-requires c =
     let s = c in
@@ -74,16 +87,3 @@ store-requires c =
     let z = c.if-number-ne0.false in
     let i = taken a.word.now (length a.message.now) s.order-q.ensures s.refusal-number.ensures z in
     room_within b i (omega arith) (search (rules, le_of_eq c.quotient_room-quotient.ensures))
-
-pub returns : goal.returns
-returns c =
-    let s = c in
-    let z = c.if-number-ne0.false in
-    λ bytes b.
-    let a = s.args in
-    let i = taken a.word.now (length a.message.now) s.order-q.ensures s.refusal-number.ensures z in
-    let divided = c.divide.ensures in
-    let tested = word-tested b _ divided c.is_zero.ensures refl in
-    wrote_made
-    (code-word _ _ _ (read_number b _ _ s.order-q.ensures s.refusal-number.ensures) z tested (not-false _ (not_from_true _ c.if-not-is_zero.false)))
-    (word_read b _ divided i.room_is c.store.ensures)

@@ -11,6 +11,16 @@ use Rattle.coder.proofs.Working.{room_within, word-stored, word-remainder}
 use Rattle.sizes.proofs.Lengths.{blocks_high}
 use Rattle.coder.proofs.remainder_word.Goals as goal
 
+pub returns : goal.returns
+returns c =
+    let s = c in
+    let z = c.if-number-ne0.false in
+    λ bytes b.
+    let a = s.args in
+    let i = taken a.word.now (length a.out.now) s.order-q.ensures s.refusal-number.ensures z in
+    wrote_made (sym (remainder-number b _ _ s.order-q.ensures s.refusal-number.ensures) ∙ z)
+    (word-remainder b _ c.divide.ensures i.room_is c.store.ensures)
+
 pub order-q-requires : goal.order-q-requires
 order-q-requires c = (params_sizes _ _ c.requires.open_book.describes).p_high
 
@@ -50,13 +60,3 @@ store-requires c =
     let below = degree_high _ _ d in
     let room = c.room-rest.ensures in
     room_within b i (omega arith) (omega (arith, room, c.divide.auto))
-
-pub returns : goal.returns
-returns c =
-    let s = c in
-    let z = c.if-number-ne0.false in
-    λ bytes b.
-    let a = s.args in
-    let i = taken a.word.now (length a.out.now) s.order-q.ensures s.refusal-number.ensures z in
-    wrote_made (sym (remainder-number b _ _ s.order-q.ensures s.refusal-number.ensures) ∙ z)
-    (word-remainder b _ c.divide.ensures i.room_is c.store.ensures)

@@ -18,6 +18,31 @@ use Rattle.decode.proofs.Answering.{decode_number, input, input-size, input-stor
 use borrow.Author.Rules.{rules}
 use Rattle.decode.proofs.decode_word.Goals as goal
 
+pub returns : goal.returns
+returns c =
+    let w = c in
+    let z = c.if-number-ne0.false in
+    let d = w.requires.0 in
+    let a = w.args in
+    let asked = w.refusal-number.ensures in
+    let q = w.order.ensures in
+    let run = c.run-end in
+    let size = ((let at_w = w in let fact : at_w.refusal-number.result ≡ 0 → (length at_w.args.answer.now ≡ at_w.args.c.n) × (length at_w.args.entries.now ≡ 2 ^ at_w.args.c.p * at_w.args.c.n) = λ z. let a = at_w.args in
+    exact_sizes (length a.answer.now) a.c.n (length a.entries.now) (2 ^ a.c.p * a.c.n) at_w.exact-sized.ensures
+    (input _ _ at_w.requires.0 a.received.now at_w.exact-sized.result at_w.refusal-number.ensures at_w.order.ensures z).sizes in fact) z).0 in
+    -- the part of the answer that is written is all of it
+    let written = ap₂ ◌++◌ (c.store.ensures ∙ ap (λ (k : ℕ). table k (place run.result.word)) ((let at_w = w in let fact : at_w.refusal-number.result ≡ 0 → length (take at_w.args.c.n at_w.args.answer.now) ≡ at_w.args.c.n = λ z. length-take-le _ _ (omega (
+      arith,
+      ((let at_at_w = at_w in let fact : at_at_w.refusal-number.result ≡ 0 → (length at_at_w.args.answer.now ≡ at_at_w.args.c.n) × (length at_at_w.args.entries.now ≡ 2 ^ at_at_w.args.c.p * at_at_w.args.c.n) = λ z. let a = at_at_w.args in
+          exact_sizes (length a.answer.now) a.c.n (length a.entries.now) (2 ^ a.c.p * a.c.n) at_at_w.exact-sized.ensures
+          (input _ _ at_at_w.requires.0 a.received.now at_at_w.exact-sized.result at_at_w.refusal-number.ensures at_at_w.order.ensures z).sizes in fact) z).0,
+    )) in fact) z))
+    (drop_of_length-le a.answer.now (le_of_eq size)) ∙ append-nil _ in (
+      decodes_done _ _ d a.received.now (input-listed _ _ d a.received.now w.exact-sized.result asked q z) _ _ run.ensures.0 _
+          (sym (decode_number _ _ d _ _ _ asked q w.exact-sized.ensures) ∙ z) written c.distance-changed.ensures.0,
+      run.ensures.1,
+    )
+
 pub exact-sized-requires : goal.exact-sized-requires
 exact-sized-requires c = let s = params_sizes _ _ c.requires.0 in (s.p_high, s.n_high)
 
@@ -99,28 +124,3 @@ distance-changed-requires c =
 
 pub overflow_cast-result : goal.overflow_cast-result
 overflow_cast-result c = omega (arith, c.distance-changed.ensures.1, (params_sizes _ _ c.requires.0).n_high)
-
-pub returns : goal.returns
-returns c =
-    let w = c in
-    let z = c.if-number-ne0.false in
-    let d = w.requires.0 in
-    let a = w.args in
-    let asked = w.refusal-number.ensures in
-    let q = w.order.ensures in
-    let run = c.run-end in
-    let size = ((let at_w = w in let fact : at_w.refusal-number.result ≡ 0 → (length at_w.args.answer.now ≡ at_w.args.c.n) × (length at_w.args.entries.now ≡ 2 ^ at_w.args.c.p * at_w.args.c.n) = λ z. let a = at_w.args in
-    exact_sizes (length a.answer.now) a.c.n (length a.entries.now) (2 ^ a.c.p * a.c.n) at_w.exact-sized.ensures
-    (input _ _ at_w.requires.0 a.received.now at_w.exact-sized.result at_w.refusal-number.ensures at_w.order.ensures z).sizes in fact) z).0 in
-    -- the part of the answer that is written is all of it
-    let written = ap₂ ◌++◌ (c.store.ensures ∙ ap (λ (k : ℕ). table k (place run.result.word)) ((let at_w = w in let fact : at_w.refusal-number.result ≡ 0 → length (take at_w.args.c.n at_w.args.answer.now) ≡ at_w.args.c.n = λ z. length-take-le _ _ (omega (
-      arith,
-      ((let at_at_w = at_w in let fact : at_at_w.refusal-number.result ≡ 0 → (length at_at_w.args.answer.now ≡ at_at_w.args.c.n) × (length at_at_w.args.entries.now ≡ 2 ^ at_at_w.args.c.p * at_at_w.args.c.n) = λ z. let a = at_at_w.args in
-          exact_sizes (length a.answer.now) a.c.n (length a.entries.now) (2 ^ a.c.p * a.c.n) at_at_w.exact-sized.ensures
-          (input _ _ at_at_w.requires.0 a.received.now at_at_w.exact-sized.result at_at_w.refusal-number.ensures at_at_w.order.ensures z).sizes in fact) z).0,
-    )) in fact) z))
-    (drop_of_length-le a.answer.now (le_of_eq size)) ∙ append-nil _ in (
-      decodes_done _ _ d a.received.now (input-listed _ _ d a.received.now w.exact-sized.result asked q z) _ _ run.ensures.0 _
-          (sym (decode_number _ _ d _ _ _ asked q w.exact-sized.ensures) ∙ z) written c.distance-changed.ensures.0,
-      run.ensures.1,
-    )

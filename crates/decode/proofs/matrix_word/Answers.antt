@@ -13,6 +13,19 @@ use Rattle.spec_range.proofs.Loop.{padded-length}
 use Rattle.sizes.proofs.Lengths.{blocks_high}
 use Rattle.decode.proofs.matrix_word.Goals as goal
 
+pub returns : goal.returns
+returns c =
+    let looked = c in
+    let start = looked in
+    let d = start.requires in
+    let exact = eqb (length start.args.entries.now) looked.matrix_size.result in
+    let z = c.if-number-ne0.false in
+    let asked = looked.refusal-number.ensures in
+    let q = looked.order.ensures in
+    wrote_made (sym (matrix_number _ _ d _ _ asked q looked.matrix_size.ensures) ∙ z)
+    (matrix_made _ _ d start.args.received.now (input-listed _ _ d start.args.received.now exact asked q z) c.load-r.ensures
+    (c.fill.ensures _ (params_fillable _ _ d) c.list.ensures.0))
+
 pub matrix_size-requires : goal.matrix_size-requires
 matrix_size-requires c = let s = params_sizes _ _ c.requires in (s.p_high, s.n_high)
 
@@ -53,16 +66,3 @@ fill-requires c =
       whole_steps ok,
       whole_few ok,
     )
-
-pub returns : goal.returns
-returns c =
-    let looked = c in
-    let start = looked in
-    let d = start.requires in
-    let exact = eqb (length start.args.entries.now) looked.matrix_size.result in
-    let z = c.if-number-ne0.false in
-    let asked = looked.refusal-number.ensures in
-    let q = looked.order.ensures in
-    wrote_made (sym (matrix_number _ _ d _ _ asked q looked.matrix_size.ensures) ∙ z)
-    (matrix_made _ _ d start.args.received.now (input-listed _ _ d start.args.received.now exact asked q z) c.load-r.ensures
-    (c.fill.ensures _ (params_fillable _ _ d) c.list.ensures.0))

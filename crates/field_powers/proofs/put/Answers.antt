@@ -4,14 +4,27 @@ use Prim.Native.Nat.{◌+◌, ◌-◌, ◌^◌, ◌<◌, ◌≤◌}
 use mathlib.Core.Path.{◌≡◌, ◌∙◌}
 use native.Mathlib.Omega.{arith}
 use lib.ListN.{length, set, length-set}
-use lib.Pow.{pow_pos}
+use lib.Pow.{pow_pos, pow_mono}
 use Rattle.field_powers.proofs.Laws.{power_below}
 use Rattle.field_powers.proofs.Logging.{logging_none, logging_more, logging_end, round_le, power_fits}
 use Rattle.field_powers.specs.Powers.{powers_end}
 use Rattle.field_powers.proofs.put.Goals as goal
 
+pub returns : goal.returns
+returns c =
+    let t = c in
+    let a = t in
+    logging_end a.requires.0 a.requires.1 ((let fact : t.wide-round.result - 1 + 1 ≡ 2 ^ t.args.p = omega (arith, pow_pos t.args.p, t.wide-round.ensures, t.order.ensures) in fact)) a.args.room.now a.requires.2 c.loop-e.invariant c.loop-e-test.false
+
+pub loop-e-preserved : goal.loop-e-preserved
+loop-e-preserved c =
+    let s = c in
+    let t = s in
+    let a = t in
+    logging_more a.requires.0 a.requires.1 ((let fact : t.wide-round.result - 1 + 1 ≡ 2 ^ t.args.p = omega (arith, pow_pos t.args.p, t.wide-round.ensures, t.order.ensures) in fact)) a.args.room.now a.requires.2 s.loop-e.invariant s.loop-e-test.true c.double-symbol.ensures.0
+
 pub overflow_sub-round : goal.overflow_sub-round
-overflow_sub-round c = omega (arith, pow_pos c.args.p, c.wide-round.ensures, c.order.ensures)
+overflow_sub-round c = omega (arith, pow_mono c.requires.0, c.wide-round.ensures, c.order.ensures)
 
 pub loop-e-init : goal.loop-e-init
 loop-e-init c = let a = c in logging_none _ _ a.args.room.now a.requires.2
@@ -73,18 +86,5 @@ double-symbol-requires c =
     let pre = c.requires in
     (pre.0, pre.1, rw c.loop-e.invariant.symbol_is (power_below _ pre.0 pre.1 c.loop-e.e))
 
-pub loop-e-preserved : goal.loop-e-preserved
-loop-e-preserved c =
-    let s = c in
-    let t = s in
-    let a = t in
-    logging_more a.requires.0 a.requires.1 ((let fact : t.wide-round.result - 1 + 1 ≡ 2 ^ t.args.p = omega (arith, pow_pos t.args.p, t.wide-round.ensures, t.order.ensures) in fact)) a.args.room.now a.requires.2 s.loop-e.invariant s.loop-e-test.true c.double-symbol.ensures.0
-
 pub shape_of-room : goal.shape_of-room
 shape_of-room c = c.loop-e.invariant.long ∙ length-set c.args.room.now 0 0
-
-pub returns : goal.returns
-returns c =
-    let t = c in
-    let a = t in
-    logging_end a.requires.0 a.requires.1 ((let fact : t.wide-round.result - 1 + 1 ≡ 2 ^ t.args.p = omega (arith, pow_pos t.args.p, t.wide-round.ensures, t.order.ensures) in fact)) a.args.room.now a.requires.2 c.loop-e.invariant c.loop-e-test.false

@@ -13,7 +13,7 @@ fill-requires c =
     let t = c in
     let a = t in
     let few : a.args.p ≤ 3 = omega (arith, ltb-true a.args.p 4 (sym t.few.ensures ∙ t.if-few.true)) in
-    (a.requires.0, few, a.requires.2 few)
+    search (rules, few, a.requires.2 few)
 
 pub fill-requires-else-few : goal.fill-requires-else-few
 fill-requires-else-few c =

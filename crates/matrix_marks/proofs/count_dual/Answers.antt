@@ -9,6 +9,15 @@ use Rattle.matrix_marks.specs.Marks.{Summable}
 use Rattle.matrix_marks.proofs.Turning.{raising_none, raising_more, turned_markable, turned_summable, counters_in, turned_le, raising_end}
 use Rattle.matrix_marks.proofs.count_dual.Goals as goal
 
+pub loop-e-preserved : goal.loop-e-preserved
+loop-e-preserved c =
+    let t = c in
+    let s = t in
+    let m = s in
+    let a = m in
+    let taken = s.loop-e-test.true in
+    raising_more s.loop-e.invariant taken (turned_le a.requires m.mark_rows.ensures (omega arith) ((let fact : a.wide-rows.result ≡ 2 ^ a.args.p = a.wide-rows.ensures ∙ a.order.ensures in fact)) _ taken) t.count_row.ensures
+
 pub overflow_sub-rows : goal.overflow_sub-rows
 overflow_sub-rows c = omega (arith, pow_pos c.args.p, (let fact : c.wide-rows.result ≡ 2 ^ c.args.p = c.wide-rows.ensures ∙ c.order.ensures in fact))
 
@@ -70,15 +79,6 @@ count_row-requires c =
           counters_in a.requires m.mark_rows.ensures (omega arith) ((let fact : a.wide-rows.result ≡ 2 ^ a.args.p = a.wide-rows.ensures ∙ a.order.ensures in fact)) s.loop-e.invariant s.loop-e-test.true in fact),
       λ k. omega (arith, s.loop-e.invariant.room k, pre.room k),
     )
-
-pub loop-e-preserved : goal.loop-e-preserved
-loop-e-preserved c =
-    let t = c in
-    let s = t in
-    let m = s in
-    let a = m in
-    let taken = s.loop-e-test.true in
-    raising_more s.loop-e.invariant taken (turned_le a.requires m.mark_rows.ensures (omega arith) ((let fact : a.wide-rows.result ≡ 2 ^ a.args.p = a.wide-rows.ensures ∙ a.order.ensures in fact)) _ taken) t.count_row.ensures
 
 pub shape_of-counts : goal.shape_of-counts
 shape_of-counts c = c.loop-e.invariant.long

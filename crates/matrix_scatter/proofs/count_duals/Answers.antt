@@ -9,6 +9,23 @@ use Rattle.matrix_terms.proofs.Received.{table_le, word_read}
 use Rattle.matrix_scatter.proofs.Duals.{logged, dual-started, dual-countable, dual-more, counter-end, counters-most}
 use Rattle.matrix_scatter.proofs.count_duals.Goals as goal
 
+pub loop-l-preserved : goal.loop-l-preserved
+loop-l-preserved c =
+    let t = c in
+    let u = t in
+    let s = u in
+    let a = s in
+    let i = a.loop-l.invariant in
+    let d = s.loop-l-test.true in (
+      omega (arith, u.product.auto, i.0),
+      omega (arith, t.offsets.auto, i.1),
+      record {
+        counted = λ b h.
+            dual-more a.requires h _ a.row_starts-starts.ensures (i.2.counted b h) d (u.product.ensures (b _) (h.row_of _ d)) i.1
+            t.offsets.ensures _ c.count_dual.ensures;
+      },
+    )
+
 pub row_starts-starts-requires : goal.row_starts-starts-requires
 row_starts-starts-requires c = let x = c.requires.terms_of.numbers in (x.sizes, logged x)
 
@@ -61,23 +78,6 @@ pub overflow_add-l : goal.overflow_add-l
 overflow_add-l c =
     let s = c in
     omega (arith, s.loop-l-test.true, s.requires.terms_of.numbers.few_duals)
-
-pub loop-l-preserved : goal.loop-l-preserved
-loop-l-preserved c =
-    let t = c in
-    let u = t in
-    let s = u in
-    let a = s in
-    let i = a.loop-l.invariant in
-    let d = s.loop-l-test.true in (
-      omega (arith, u.product.auto, i.0),
-      omega (arith, t.offsets.auto, i.1),
-      record {
-        counted = λ b h.
-            dual-more a.requires h _ a.row_starts-starts.ensures (i.2.counted b h) d (u.product.ensures (b _) (h.row_of _ d)) i.1
-            t.offsets.ensures _ c.count_dual.ensures;
-      },
-    )
 
 pub shape_of-counts : goal.shape_of-counts
 shape_of-counts c = adding_long (c.loop-l.invariant.2.counted _ c.requires.terms_of)

@@ -6,6 +6,12 @@ use lib.Pow.{pow_mono}
 use Rattle.matrix_terms.proofs.Summing.{wide_fits, summing_none, summing_more, summing_end, start_is, log_in, turn_in, start_in}
 use Rattle.matrix_terms.proofs.product_block.Goals as goal
 
+pub loop-i-preserved : goal.loop-i-preserved
+loop-i-preserved c =
+    let s = c in
+    let pre = s.requires in
+    summing_more s.loop-i.invariant s.loop-i-test.true (omega (arith, start_is pre.0 _ pre.1 s.loop-i-test.true)) c.add_block.ensures
+
 pub bounds-terms-0 : goal.bounds-terms-0
 bounds-terms-0 c = c.requires.0.long
 
@@ -50,12 +56,6 @@ add_block-requires c =
     let s = c in
     let pre = s.requires in
     (omega (arith, start_in pre.0 _ pre.1 s.loop-i-test.true, pre.3), s.loop-i.invariant.long)
-
-pub loop-i-preserved : goal.loop-i-preserved
-loop-i-preserved c =
-    let s = c in
-    let pre = s.requires in
-    summing_more s.loop-i.invariant s.loop-i-test.true (omega (arith, start_is pre.0 _ pre.1 s.loop-i-test.true)) c.add_block.ensures
 
 pub returns : goal.returns
 returns c = summing_end c.loop-i.invariant c.loop-i-test.false

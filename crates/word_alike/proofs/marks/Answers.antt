@@ -12,6 +12,13 @@ use borrow.Author.Rules.{rules}
 use Rattle.std.proofs.lemmas.Nat.{and_le_l}
 use Rattle.word_alike.proofs.marks.Goals as goal
 
+pub loop-j-preserved : goal.loop-j-preserved
+unfolding mark_at
+loop-j-preserved c =
+    let s = c.args in
+    let at = c.loop-j in
+    (search rules, held_more _ (omega arith) (ap (λ (x : ℕ). bit_and x (place s.inside.now (s.at + at.j))) c.mark-m.ensures) at.invariant.1)
+
 pub loop-j-init : goal.loop-j-init
 loop-j-init c = (search rules, held_none 64 _)
 
@@ -32,13 +39,6 @@ overflow_add-from-in-loop-j-4 c = omega (arith, and_le_l 20 c.args.n)
 
 pub bounds-rows-from-in-loop-j-5 : goal.bounds-rows-from-in-loop-j-5
 bounds-rows-from-in-loop-j-5 c = omega (arith, and_le_l 20 c.args.n)
-
-pub loop-j-preserved : goal.loop-j-preserved
-unfolding mark_at
-loop-j-preserved c =
-    let s = c.args in
-    let at = c.loop-j in
-    (search rules, held_more _ (omega arith) (ap (λ (x : ℕ). bit_and x (place s.inside.now (s.at + at.j))) c.mark-m.ensures) at.invariant.1)
 
 pub returns : goal.returns
 returns c = held_table (omega arith) c.loop-j.invariant.1

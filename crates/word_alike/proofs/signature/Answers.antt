@@ -10,6 +10,12 @@ use Rattle.word_alike.proofs.Signing.{signed_to_none, signed_to_more, signed_to_
 use borrow.Author.Rules.{rules}
 use Rattle.word_alike.proofs.signature.Goals as goal
 
+pub returns : goal.returns
+returns c =
+    let s = c in
+    let all : c.loop-b.b ≡ s.args.blocks = omega (arith, c.loop-b.invariant.0) in
+    signed_to_end (λ j. place s.args.rows.now (s.args.from + j)) s.requires.0 s.requires.1 s.requires.3 (rw all at c.loop-b.invariant.1)
+
 pub loop-b-init : goal.loop-b-init
 loop-b-init c =
     let s = c.args in
@@ -26,9 +32,3 @@ loop-b-preserved c =
     let s = c.args in
     let marks = c.marks-m.ensures in
     (search rules, signed_to_more s.n s.from now.b s.rows.now s.inside.now now.invariant.1 marks c.squares-sum.ensures)
-
-pub returns : goal.returns
-returns c =
-    let s = c in
-    let all : c.loop-b.b ≡ s.args.blocks = omega (arith, c.loop-b.invariant.0) in
-    signed_to_end (λ j. place s.args.rows.now (s.args.from + j)) s.requires.0 s.requires.1 s.requires.3 (rw all at c.loop-b.invariant.1)

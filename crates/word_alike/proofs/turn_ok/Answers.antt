@@ -10,6 +10,12 @@ use Rattle.word_alike.specs.Compared.{turn_ok, same_row}
 use borrow.Author.Rules.{rules}
 use Rattle.word_alike.proofs.turn_ok.Goals as goal
 
+pub returns : goal.returns
+unfolding turn_ok
+returns c =
+    let s = c.args in
+    rw (ne_eqb _ _ c.if-c-eq0.false) (c.same_row.ensures ∙ ap (same_row s.n s.d.now s.k s.t.now) ((let fact : let s = c.args in 128 * c.blocks-2.result * c.wide.result ≡ stride s.n * place s.d.now s.k = ap₂ (λ (b x : ℕ). 128 * b * x) c.blocks-2.ensures c.wide.ensures in fact)))
+
 pub returns-then-c-eq0 : goal.returns-then-c-eq0
 unfolding turn_ok
 returns-then-c-eq0 c = rw (eq-eqb _ _ c.if-c-eq0.true)
@@ -22,9 +28,3 @@ overflow_mul-blocks-2 c = search (rules, (let fact : let s = c.args in 128 * c.b
 
 pub same_row-requires : goal.same_row-requires
 same_row-requires c = search (rules, (let fact : let s = c.args in 128 * c.blocks-2.result * c.wide.result ≡ stride s.n * place s.d.now s.k = ap₂ (λ (b x : ℕ). 128 * b * x) c.blocks-2.ensures c.wide.ensures in fact), blocks_fit c.requires.0)
-
-pub returns : goal.returns
-unfolding turn_ok
-returns c =
-    let s = c.args in
-    rw (ne_eqb _ _ c.if-c-eq0.false) (c.same_row.ensures ∙ ap (same_row s.n s.d.now s.k s.t.now) ((let fact : let s = c.args in 128 * c.blocks-2.result * c.wide.result ≡ stride s.n * place s.d.now s.k = ap₂ (λ (b x : ℕ). 128 * b * x) c.blocks-2.ensures c.wide.ensures in fact)))

@@ -8,6 +8,13 @@ use Rattle.word_divide.proofs.Dividing.{dividing_start, dividing-more, dividing-
 use borrow.Author.Rules.{rules}
 use Rattle.word_divide.proofs.divide_in.Goals as goal
 
+pub loop-i-preserved : goal.loop-i-preserved
+loop-i-preserved c =
+    let now = c in
+    let s = now.requires in
+    let added = rw now.blocks-blocks.ensures at c.add_row_at.ensures in
+    dividing-more s.0 now.loop-i.invariant (search rules) c.wide.ensures s.1 added
+
 pub loop-i-init : goal.loop-i-init
 loop-i-init c = dividing_start c.requires.0 _
 
@@ -30,13 +37,6 @@ add_row_at-requires c =
       ),
       omega (arith, e, now.loop-i.invariant.within, now.loop-i.invariant.long, s.k_high, s.degree_pos, s.long),
     )
-
-pub loop-i-preserved : goal.loop-i-preserved
-loop-i-preserved c =
-    let now = c in
-    let s = now.requires in
-    let added = rw now.blocks-blocks.ensures at c.add_row_at.ensures in
-    dividing-more s.0 now.loop-i.invariant (search rules) c.wide.ensures s.1 added
 
 pub shape_of-v : goal.shape_of-v
 shape_of-v c = c.loop-i.invariant.long

@@ -11,6 +11,12 @@ use Rattle.book_alike.proofs.Differing.{unlike_told}
 use borrow.Author.Rules.{rules}
 use Rattle.book_alike.proofs.compare.pair_alike.Goals as goal
 
+pub returns : goal.returns
+returns c =
+    let start = c in
+    c.alike.ensures
+    ∙ ap₂ (alike (gf start.args.p) start.args.n) (body_word _ start.args.m c.dual_at.ensures start.args.n) start.requires.2.word
+
 pub bounds-s-m : goal.bounds-s-m
 bounds-s-m c = let s = c.requires in omega (arith, s.0.most, s.1.long, s.3)
 
@@ -46,9 +52,3 @@ alike-requires c =
       multiples = start.requires.2.multiples;
       first = ap (λ (f : ℕ → ℕ). f 0) start.requires.2.word ∙ start.requires.0.first start.args.l (omega arith);
     }
-
-pub returns : goal.returns
-returns c =
-    let start = c in
-    c.alike.ensures
-    ∙ ap₂ (alike (gf start.args.p) start.args.n) (body_word _ start.args.m c.dual_at.ensures start.args.n) start.requires.2.word
