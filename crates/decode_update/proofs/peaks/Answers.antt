@@ -25,10 +25,6 @@ overflow_add-end c = omega (arith, (let fact : c.loop-i.i * c.args.n + c.args.n 
 pub offset_bounds-m-start : goal.offset_bounds-m-start
 offset_bounds-m-start c = omega (arith, (let fact : c.loop-i.i * c.args.n + c.args.n ≤ length c.args.m.now = rw c.requires.1 (row_within _ (omega arith)) in fact))
 
--- NO GOAL slice-bounds-take-row-end
--- part-take-row-end : tie.Need-slice-bounds-take-row-end invariant-loop decreases-loop
--- part-take-row-end c = row_ends c
-
 pub take_row-requires : goal.take_row-requires
 take_row-requires c =
     let t = c in

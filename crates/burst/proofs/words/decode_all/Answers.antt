@@ -21,12 +21,6 @@ overflow_add-end c =
     let s = params_sizes _ _ h.0 in
     omega (arith, part_end c.loop-m.m _ c.loop-m-test.true s.n_high h.3.high)
 
--- NO GOAL slice-bounds-decode-one-end
--- part-decode-one-end : tie.Need-slice-bounds-decode-one-end invariant-loop decreases-loop
--- part-decode-one-end c =
---     let h = c.before.before.before.before.before.before.before.before.before.before.requires in
---     omega (arith, part_within c.before.before.loop.m _ c.before.loop-test.true (c.before.before.loop.invariant.answers-same ∙ h.4))
-
 pub decode_one-x-requires : goal.decode_one-x-requires
 decode_one-x-requires c =
     let h = c.requires in
