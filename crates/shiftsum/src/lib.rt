@@ -214,8 +214,8 @@ fn burst_made(book: &[u8], words: u32, received: &[u8], answers: &mut [u8], list
     burst_short(book, words, received, answers, list)
 }
 
-// Decode a burst, and write its records into the caller's list. This is the one function over a slice of structs, and its proof is a walk by hand: so all else
-// is done by value before, and where the burst is refused there is no record to write.
+// Decode a burst, and write its records into the caller's list. This is the one function over a slice of structs: all else is done by
+// value before, and where the burst is refused there is no record to write.
 pub fn shiftsum_burst(
     book: &[u8],
     words: u32,

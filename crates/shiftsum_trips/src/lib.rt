@@ -1,5 +1,5 @@
-// What a C caller sees of two calls: each function here calls exported functions of `shiftsum`, and its contract speaks of the numbers that they return and
-// of the buffers. shiftsum_burst is not among them: it takes a slice of structs, and a call of it is proved by hand alone.
+// What a C caller sees of two calls: each function here calls functions of `shiftsum`, which `shiftsum_c` exports, and its contract speaks of
+// the numbers that they return and of the buffers. A burst's are said in the crate symmetry, of the records by value.
 #![tactic(auto)]
 
 ghost use Rattle.std.specs.Prelude.{◌≡◌, List, [], ℕ, length};

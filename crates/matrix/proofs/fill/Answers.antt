@@ -3,6 +3,7 @@
 use Prim.Native.Nat.{◌≤◌}
 use mathlib.Core.Path.{sym, ◌∙◌}
 use native.Mathlib.Omega.{arith}
+use borrow.Author.Rules.{rules}
 use borrow.Author.Tests.{ltb-true, ltb-false}
 use Rattle.matrix_terms.specs.Terms.{dual_of}
 use Rattle.matrix.proofs.Whole.{all_duals}
