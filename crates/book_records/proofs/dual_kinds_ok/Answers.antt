@@ -7,6 +7,10 @@ use Rattle.book_records.proofs.Tested.{dual_room}
 use borrow.Author.Rules.{rules}
 use Rattle.book_records.proofs.dual_kinds_ok.Goals as goal
 
+pub loop-l-preserved : goal.loop-l-preserved
+loop-l-preserved c =
+    passing_more c.loop-l.invariant (search rules) (eq-eqb _ _ (rw c.dual_at.ensures at c.if-book-dual_at.false))
+
 pub loop-l-init : goal.loop-l-init
 loop-l-init c = passing_none _ _
 
@@ -18,10 +22,6 @@ bounds-book-dual_at c =
 pub returns-then-book-dual_at : goal.returns-then-book-dual_at
 returns-then-book-dual_at c =
     passing_fails c.loop-l.invariant (search rules) (ne_eqb _ _ (rw c.dual_at.ensures at c.if-book-dual_at.true))
-
-pub loop-l-preserved : goal.loop-l-preserved
-loop-l-preserved c =
-    passing_more c.loop-l.invariant (search rules) (eq-eqb _ _ (rw c.dual_at.ensures at c.if-book-dual_at.false))
 
 pub returns : goal.returns
 returns c = passing_end c.loop-l.invariant (search rules)
