@@ -36,6 +36,3 @@ module _ (i : ℕ) (piece part : List ℕ) (within : i ≤ length piece) where
       = ap (λ l. l ++ take n part) (sym front) ∙ ap (λ l. take i after ++ l) (sym more) ∙ sym (take-add i n after) in
       subst (Consumes a c) joined (Consumes-trans a b c _ _ p q)
 
-  -- none was
-  pub consumes_same : (a b c : Option (List ℕ)) → Consumes a b (take i piece) → Keeps b c → Consumes a c (take i after)
-  consumes_same a b c p q = subst (Consumes a c) (sym front) (Consumes-kept a b c _ p q)

@@ -11,7 +11,7 @@ ghost use Rattle.stream_turns.specs.Turns.{piece_size};
 ghost use Rattle.stream_io.specs.Answered.{Answers};
 
 use std::io;
-use std::io::{ErrorKind, Read, Write};
+use std::io::{Read, Write};
 
 // How a run ended: all was answered, or a read failed and what was read is answered, or a write failed.
 #[derive(Clone, Copy)]
@@ -29,7 +29,7 @@ struct Taken {
 }
 
 // Fills the piece from the reader. It is left short only where the input has ended or a read failed: a read that gives fewer bytes than there is room for
-// says nothing of the end. A read that a signal interrupts is tried again.
+// says nothing of the end.
 fn take_piece<R: Read>(reader: &mut R, piece: &mut [u8]) -> Taken
     ensures within { result.count ≤ length piece.new }
     ensures prefix { result.count ≡ length (take result.count piece.new) }
@@ -37,13 +37,7 @@ fn take_piece<R: Read>(reader: &mut R, piece: &mut [u8]) -> Taken
     ensures short { result.failed ≡ false → result.count < length piece.new → IsAtEnd (R.remaining reader.new) }
 {
     let mut count = 0;
-    for _ in 0..u64::MAX {
-        if count >= piece.len() {
-            return Taken {
-                count,
-                failed: false,
-            };
-        }
+    while count < piece.len() {
         match reader.read(&mut piece[count..]) {
             Ok(0) => {
                 return Taken {
@@ -52,43 +46,34 @@ fn take_piece<R: Read>(reader: &mut R, piece: &mut [u8]) -> Taken
                 };
             }
             Ok(n) => count += n,
-            Err(e) => {
-                if e.kind() != ErrorKind::Interrupted {
-                    return Taken {
-                        count,
-                        failed: true,
-                    };
-                }
+            Err(_) => {
+                return Taken {
+                    count,
+                    failed: true,
+                };
             }
         }
     }
     Taken {
         count,
-        failed: true,
+        failed: false,
     }
 }
 
-// Writes the text, and returns whether all of it was taken: not where a write failed or took nothing. A write that a signal interrupts is tried again.
+// Writes the text, and returns whether all of it was taken: not where a write failed or took nothing.
 fn send<W: Write>(writer: &mut W, text: &[u8]) -> bool
     ensures sent { result ≡ true → Appends (W.contents writer.old) (W.contents writer.new) text.now }
     ensures cut { (k : ℕ) × (k ≤ length text.now) × Appends (W.contents writer.old) (W.contents writer.new) (take k text.now) }
 {
     let mut count = 0;
-    for _ in 0..u64::MAX {
-        if count >= text.len() {
-            return true;
-        }
+    while count < text.len() {
         match writer.write(&text[count..]) {
             Ok(0) => return false,
             Ok(n) => count += n,
-            Err(e) => {
-                if e.kind() != ErrorKind::Interrupted {
-                    return false;
-                }
-            }
+            Err(_) => return false,
         }
     }
-    false
+    true
 }
 
 // Answers what the reader gives, piece by piece. A piece that is left short is the end of input, and a failed write ends the run.

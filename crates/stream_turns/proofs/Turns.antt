@@ -68,7 +68,7 @@ module _ (left : ℕ) (s : M.State) (input : List ℕ) where
   abbrev full : Bool
   full = eqb (length piece) piece_size
 
-  -- in the text, as in the code, `turnsLeft` turns follow it
+  -- in the text, as in the code, `turns_left` turns follow it
   pub text_turn : turns_text (suc left) s input ≡ steps_text s piece ++ turns_text (turns_left (suc left) true full (is_over s')) s' rest
   unfolding turns_text turns_left
   text_turn = ap (λ (t : List ℕ). steps_text s piece ++ t) (by_last (is_last true full (is_over s')))
