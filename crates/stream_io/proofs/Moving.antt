@@ -3,8 +3,8 @@
 use Rattle.std.proofs.Common.{◌≡◌, ℕ, ◌+◌, ◌-◌, ◌≤◌, List, ◌++◌, length, take, drop, sym, ap, ◌∙◌, subst, le_refl, drop_at, length-take-le}
 use Rattle.std.proofs.lemmas.Slice.{take-put_mid_below}
 use Rattle.std.specs.declared.option.Option.{Option}
-use Rattle.std.specs.Io.KnownBytes.{Appends, Consumes, Keeps}
-use Rattle.std.proofs.KnownBytes.{Appends-trans, Consumes-trans, Consumes-kept}
+use Rattle.std.specs.Io.KnownBytes.{Appends, Consumes}
+use Rattle.std.proofs.KnownBytes.{Appends-trans, Consumes-trans}
 use borrow.Rule.Slice.PartMut.{put_mid, post_of}
 use Rattle.std.proofs.Math.Seq.{take-add}
 use Rattle.std.proofs.lemmas.List.{take-append-le, take_rest}
@@ -35,4 +35,3 @@ module _ (i : ℕ) (piece part : List ℕ) (within : i ≤ length piece) where
       let joined : take i piece ++ take n part ≡ take (i + n) after
       = ap (λ l. l ++ take n part) (sym front) ∙ ap (λ l. take i after ++ l) (sym more) ∙ sym (take-add i n after) in
       subst (Consumes a c) joined (Consumes-trans a b c _ _ p q)
-
