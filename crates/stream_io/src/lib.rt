@@ -139,7 +139,7 @@ pub fn answer<R: Read, W: Write>(reader: &mut R, writer: &mut W) -> Ending
     )
 }
 
-// Answers standard input on standard output. How the run ended is not told.
+// Answers standard input on standard output. How the run ended is not returned.
 pub fn run(rt: &(impl Input + Print)) {
     answer(&mut rt.reader(), &mut io::writer(rt));
 }

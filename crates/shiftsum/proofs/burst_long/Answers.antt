@@ -10,14 +10,13 @@ use Rattle.shiftsum.proofs.Room.{made_into}
 use Rattle.shiftsum.proofs.burst_long.Goals as goal
 
 pub slice_bounds-room-end : goal.slice_bounds-room-end
-slice_bounds-room-end c = (let fact : c.matrix_bound-size.result ≤ length c.matrix_room-room.result = omega (arith, c.matrix_bound-size.ensures.most, c.matrix_room-room.ensures) in fact)
+slice_bounds-room-end c = omega (arith, c.matrix_bound-size.ensures.most, c.matrix_room-room.ensures)
 
 pub slice_bounds-burst_long-end : goal.slice_bounds-burst_long-end
-slice_bounds-burst_long-end c = sym (length-take-le _ _ ((let fact : c.matrix_bound-size.result ≤ length c.matrix_room-room.result = omega (arith, c.matrix_bound-size.ensures.most, c.matrix_room-room.ensures) in fact)))
+slice_bounds-burst_long-end c = sym (length-take-le _ _ (omega (arith, c.matrix_bound-size.ensures.most, c.matrix_room-room.ensures)))
 
 pub returns : goal.returns
 returns c =
-    let called = c in
-    let made = called in
-    let exact = length-take-le _ _ ((let at_made = made in let fact : at_made.matrix_bound-size.result ≤ length at_made.matrix_room-room.result = omega (arith, at_made.matrix_bound-size.ensures.most, at_made.matrix_room-room.ensures) in fact)) in
-    made_into _ _ _ _ _ (subst (MatrixBound _) (sym exact) made.matrix_bound-size.ensures) called.burst_long.ensures
+    let fits : c.matrix_bound-size.result ≤ length c.matrix_room-room.result = omega (arith, c.matrix_bound-size.ensures.most, c.matrix_room-room.ensures) in
+    let exact = length-take-le _ _ fits in
+    made_into _ _ _ _ _ (subst (MatrixBound _) (sym exact) c.matrix_bound-size.ensures) c.burst_long.ensures
