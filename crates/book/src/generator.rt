@@ -18,12 +18,10 @@ pub fn degree(book: &[u8], n: usize) -> usize
     ensures { (result ≡ degree_of n (book_of book.now).generator) × (result < n) }
 {
     let mut d: usize = 0;
-    let mut i = 0;
-    while i < n {
+    for i in 0..n {
         if book[GENERATOR + i] != 0 {
             d = i;
         }
-        i += 1;
     }
     d
 }

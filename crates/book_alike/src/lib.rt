@@ -32,12 +32,10 @@ fn pairs_ok(p: u8, n: usize, book: &[u8], duals: usize, s: &[u16], t: &mut [u8])
     requires { Comparable book.now p n duals × Signed book.now n duals s.now × (stride n * 2 ^ p ≤ length t.old) }
     ensures { result ≡ all duals (differ p n book.now) }
 {
-    let mut l = 0;
-    while l < duals {
+    for l in 0..duals {
         if compare::seen_before(p, n, book, s, l, t) {
             return false;
         }
-        l += 1;
     }
     true
 }

@@ -45,11 +45,9 @@ fn lay(n: usize, book: &[u8], l: usize, k: usize, rows: &mut [u8])
     ensures { Rows (stride n) book.now n l k rows.old rows.new }
 {
     let stride = 2 * BLOCK * sizes::blocks(n);
-    let mut i = 0;
-    while i < k {
+    for i in 0..k {
         let from = book_layout::dual_at(book, l + i) + 1;
         word_table::lay(n, book, from, stride * i, rows);
-        i += 1;
     }
 }
 
@@ -59,10 +57,8 @@ fn sign(n: usize, rows: &[u8], k: usize, inside: &[u8], l: usize, out: &mut [u16
     ensures { Window l k (λ i. signature_of n (λ j. place rows.now (stride n * i + j))) out.old out.new }
 {
     let blocks = sizes::blocks(n);
-    let mut i = 0;
-    while i < k {
+    for i in 0..k {
         out[l + i] = word_alike::signature(n, blocks, rows, 2 * BLOCK * blocks * i, inside);
-        i += 1;
     }
 }
 
@@ -72,10 +68,8 @@ pub fn all_differ(count: usize, s: &[u16]) -> bool
     ensures { result ≡ eqb (total count (λ l. times_of s.now (place s.now l))) count }
 {
     let mut found: u16 = 0;
-    let mut l = 0;
-    while l < count {
+    for l in 0..count {
         found += times(s, s[l]);
-        l += 1;
     }
     found as usize == count
 }
@@ -86,10 +80,8 @@ fn times(s: &[u16], x: u16) -> u16
     ensures { (result ≡ times_of s.now x) × (result ≤ 32) }
 {
     let mut found: u16 = 0;
-    let mut m = 0;
-    while m < DUALS {
+    for m in 0..DUALS {
         found += (s[m] == x) as u16;
-        m += 1;
     }
     found
 }

@@ -75,11 +75,9 @@ fn packed(p: u8, n: usize, book: &[u8], l: usize, k: usize, out: &mut [u8])
     ensures { Window 0 (span n) (packed_at p book.now l k) out.old out.new }
 {
     let blocks = sizes::blocks(n);
-    let mut b = 0;
-    while b < blocks {
+    for b in 0..blocks {
         let block = packed_block(p, book, l, k, BLOCK * b);
         word_table::put_block(block, BLOCK * b, out);
-        b += 1;
     }
 }
 
@@ -90,8 +88,7 @@ fn packed_block(p: u8, book: &[u8], l: usize, k: usize, at: usize) -> [u8; BLOCK
 {
     let mut out = [0u8; BLOCK];
     let mut shift: u8 = 0;
-    let mut i = 0;
-    while i < k {
+    for i in 0..k {
         pack(
             book,
             book_layout::dual_at(book, l + i) + at,
@@ -99,7 +96,6 @@ fn packed_block(p: u8, book: &[u8], l: usize, k: usize, at: usize) -> [u8; BLOCK
             &mut out,
         );
         shift += p;
-        i += 1;
     }
     out
 }
@@ -109,10 +105,8 @@ fn pack(book: &[u8], start: usize, shift: u8, out: &mut [u8; BLOCK])
     requires { (shift < 8) × (start + 64 ≤ length book.now) × (length out.old ≡ 64) }
     ensures { out.new ≡ table 64 (λ j. bit_xor (place out.old j) (place book.now (start + j) * 2 ^ shift % 256)) }
 {
-    let mut j = 0;
-    while j < BLOCK {
+    for j in 0..BLOCK {
         out[j] = out[j] ^ (book[start + j] << shift);
-        j += 1;
     }
 }
 
@@ -126,11 +120,9 @@ fn multiples(p: u8, n: usize, w: &[u8], t: &mut [u8])
     let blocks = sizes::blocks(n);
     let q = sizes::wide(field::order(p));
     word_table::put_first_rows(n, w, 1, t);
-    let mut c: usize = 1;
-    while 2 * c < q {
+    for c in 1..q / 2 {
         double_row(p, blocks, c, t);
         word_table::put_next(blocks, c, t);
-        c += 1;
     }
 }
 
@@ -141,11 +133,9 @@ fn double_row(p: u8, blocks: usize, c: usize, t: &mut [u8])
 {
     let from = 2 * BLOCK * blocks * c;
     let to = 2 * BLOCK * blocks * (2 * c);
-    let mut b = 0;
-    while b < 2 * blocks {
+    for b in 0..2 * blocks {
         let row = word_table::block(t, from + BLOCK * b);
         double_block(p, row, to + BLOCK * b, t);
-        b += 1;
     }
 }
 
@@ -158,13 +148,11 @@ fn double_block(p: u8, row: [u8; BLOCK], to: usize, t: &mut [u8])
     let ones = low_digits(p);
     let others = other_digits(p);
     let up = p - 1;
-    let mut j = 0;
-    while j < BLOCK {
+    for j in 0..BLOCK {
         let x = row[j];
         let top = (x >> up) & ones;
         let rest = x & others;
         t[to + j] = (rest + rest) ^ (top * 3);
-        j += 1;
     }
 }
 

@@ -112,12 +112,10 @@ fn dual_kinds_ok(kind: u8, book: &[u8]) -> bool
     ensures { result ≡ all (duals_in book.now) (λ l. eqb (byte book.now (dual_at (width book.now) l)) kind) }
 {
     let count = dual_count(book);
-    let mut l = 0;
-    while l < count {
+    for l in 0..count {
         if book[book_layout::dual_at(book, l)] != kind {
             return false;
         }
-        l += 1;
     }
     true
 }
@@ -178,10 +176,8 @@ fn bounds(q: u8, n: usize) -> [u8; SPAN]
 {
     let mut out = [1u8; SPAN];
     out[0] = 255;
-    let mut j = 1;
-    while j <= n {
+    for j in 1..n + 1 {
         out[j] = q;
-        j += 1;
     }
     out
 }
@@ -192,12 +188,10 @@ fn dual_bodies_ok(blocks: usize, bounds: &[u8; SPAN], book: &[u8]) -> bool
     ensures { result ≡ all (duals_in book.now) (λ l. body_ok book.now (dual_at (width book.now) l)) }
 {
     let count = dual_count(book);
-    let mut l = 0;
-    while l < count {
+    for l in 0..count {
         if !body_ok(blocks, bounds, book, book_layout::dual_at(book, l)) {
             return false;
         }
-        l += 1;
     }
     true
 }
@@ -208,11 +202,9 @@ fn body_ok(blocks: usize, bounds: &[u8; SPAN], book: &[u8], start: usize) -> boo
     ensures { result ≡ body_ok book.now start }
 {
     let mut ok = true;
-    let mut b = 0;
-    while b < blocks {
+    for b in 0..blocks {
         let good = block_ok(bounds, book, start, BLOCK * b);
         ok &= good;
-        b += 1;
     }
     ok
 }
@@ -223,10 +215,8 @@ fn block_ok(bounds: &[u8; SPAN], book: &[u8], start: usize, at: usize) -> bool
     ensures { result ≡ all 64 (λ j. below bounds.now book.now start (at + j)) }
 {
     let mut bad: u8 = 0;
-    let mut j = 0;
-    while j < BLOCK {
+    for j in 0..BLOCK {
         bad += (bounds[at + j] <= book[start + (at + j)]) as u8;
-        j += 1;
     }
     bad == 0
 }

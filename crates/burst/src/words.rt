@@ -20,10 +20,8 @@ fn unmix(received: &[u8], words: usize, m: usize, n: usize) -> Word
     ensures { result ≡ padded 255 n (λ j. place received.now (j * words + m)) }
 {
     let mut w = [0u8; WIDTH];
-    let mut j = 0;
-    while j < n {
+    for j in 0..n {
         w[j] = received[j * words + m];
-        j += 1;
     }
     w
 }
@@ -98,8 +96,7 @@ pub fn decode_all(
 {
     let n = c.n;
     let mut records = no_records();
-    let mut m = 0;
-    while m < words {
+    for m in 0..words {
         let start = m * n;
         let end = start + n;
         let x = decode_one(
@@ -114,7 +111,6 @@ pub fn decode_all(
             entries,
         );
         records[m] = x;
-        m += 1;
     }
     records
 }

@@ -92,15 +92,13 @@ fn go(c: Params, t: &[u8], terms: &[u16], r: Word, m: &mut [u16], rest: &mut [u8
     ensures { (bytes : List ℕ) → Prepared bytes c t.now terms.now
         → Ended bytes (all_rounds bytes (matrix (field_of bytes) (book_of bytes)) (listed bytes r)) result m.new }
 {
-    let most = c.rounds;
     let mut w = r;
-    let mut made: u8 = 0;
-    while made < most {
+    for before in 0..c.rounds {
         make_matrix(c, terms, w, m);
         let s = round(c, t, w, m, rest);
         let step = s.step;
         let next = s.word;
-        made += 1;
+        let made = before + 1;
         match step {
             Step::Empty => {
                 return End {
@@ -123,7 +121,7 @@ fn go(c: Params, t: &[u8], terms: &[u16], r: Word, m: &mut [u16], rest: &mut [u8
     }
     End {
         kind: Kind::Spent,
-        rounds: made,
+        rounds: c.rounds,
         word: r,
     }
 }

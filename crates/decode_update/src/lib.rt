@@ -45,13 +45,11 @@ fn take_row(row: &[u16], symbol: u8, counts: &mut [u16; WIDTH], symbols: &mut [u
     ensures { Taken row.now symbol counts.old symbols.old counts.new symbols.new }
 {
     let n = row.len();
-    let mut j = 0;
-    while j < n {
+    for j in 0..n {
         let x = row[j];
         let count = counts[j];
         counts[j] = larger(count, x);
         symbols[j] = holder(count, symbols[j], x, symbol);
-        j += 1;
     }
 }
 
@@ -61,13 +59,10 @@ pub fn peaks(p: u8, n: usize, m: &[u16], counts: &mut [u16; WIDTH], symbols: &mu
     requires { Sizes p n × (length m.now ≡ 2 ^ p * n) × (counts.old ≡ replicate 255 0) × (symbols.old ≡ replicate 255 0) }
     ensures { Peaked n m.now (2 ^ p) counts.new symbols.new × (length counts.new ≡ 255) }
 {
-    let last = field::order(p) - 1;
-    let mut i: u8 = 1;
-    while i <= last {
+    for i in 1..field::order(p) {
         let start = (i as usize) * n;
         let end = start + n;
         take_row(&m[start..end], i, counts, symbols);
-        i += 1;
     }
 }
 
@@ -77,10 +72,8 @@ fn widened(n: usize, a: &[u16]) -> [u16; SPAN]
     ensures { Widened n a.now 65535 result }
 {
     let mut w = [MOST; SPAN];
-    let mut j = 0;
-    while j < n {
+    for j in 0..n {
         w[j] = a[j];
-        j += 1;
     }
     w
 }
@@ -91,10 +84,8 @@ fn at_most_block(row: &[u16; SPAN], from: usize, x: u16) -> u16
     ensures { (result ≡ count 64 (λ k. leb (place row.now (from + k)) x)) × (result ≤ 64) }
 {
     let mut count: u16 = 0;
-    let mut j = 0;
-    while j < BLOCK {
+    for j in 0..BLOCK {
         count += (row[from + j] <= x) as u16;
-        j += 1;
     }
     count
 }
@@ -105,10 +96,8 @@ fn at_most(blocks: usize, row: &[u16; SPAN], x: u16) -> usize
     ensures { result ≡ at_most (64 * blocks) row.now x }
 {
     let mut count: u16 = 0;
-    let mut b = 0;
-    while b < blocks {
+    for b in 0..blocks {
         count += at_most_block(row, BLOCK * b, x);
-        b += 1;
     }
     count as usize
 }
@@ -119,10 +108,8 @@ fn largest(n: usize, a: &[u16]) -> u16
     ensures { (k : ℕ) → k < n → place a.now k ≤ result }
 {
     let mut most: u16 = 0;
-    let mut j = 0;
-    while j < n {
+    for j in 0..n {
         most = larger(most, a[j]);
-        j += 1;
     }
     most
 }
@@ -187,10 +174,8 @@ pub fn corrections(p: u8, n: usize, places: usize, m: &[u16]) -> Word
     let low = low_limit(n, places, m);
     let high = high_limit(n, places, &counts);
     let mut e = [0u8; WIDTH];
-    let mut j = 0;
-    while j < n {
+    for j in 0..n {
         e[j] = chosen(low, high, m[j], counts[j], symbols[j]);
-        j += 1;
     }
     e
 }

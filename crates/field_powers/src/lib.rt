@@ -15,12 +15,10 @@ pub fn put(p: u8, room: &mut [u16])
     let round = sizes::wide(field::order(p)) - 1;
     room[0] = 0;
     let mut symbol: u8 = 1;
-    let mut e: usize = 0;
-    while e < round {
+    for e in 0..round {
         room[POWERS_AT + e] = symbol as u16;
         room[POWERS_AT + round + e] = symbol as u16;
         room[symbol as usize] = e as u16;
         symbol = field::double(p, symbol);
-        e += 1;
     }
 }

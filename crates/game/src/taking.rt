@@ -18,11 +18,9 @@ pub fn held(made: Burst) -> u8
     ensures { result ≡ held_records made.count (made_bytes made) }
 {
     let mut held: u8 = 0;
-    let mut m = 0;
-    while m < made.count {
+    for m in 0..made.count {
         let x = burst::record_at(made, m);
         held += is_held(x.kind) as u8;
-        m += 1;
     }
     held
 }

@@ -19,12 +19,10 @@ fn read_all(c: Params, t: &[u8], words: usize, answers: &[u8], messages: &mut [u
 {
     let n = c.n;
     let k = n - c.degree;
-    let mut m = 0;
-    while m < words {
+    for m in 0..words {
         let from = m * n;
         let to = m * k;
         coder::read_word(c, t, &answers[from..from + n], &mut messages[to..to + k]);
-        m += 1;
     }
 }
 

@@ -15,10 +15,8 @@ fn mix(word: &[u8], n: usize, words: usize, m: usize, out: &mut [u8])
     requires { (n ≤ 255) × (words ≤ 16) × (m < words) × (n ≤ length word.now) × (n * words ≤ length out.old) }
     ensures { Put n words m word.now out.old out.new }
 {
-    let mut j = 0;
-    while j < n {
+    for j in 0..n {
         out[j * words + m] = word[j];
-        j += 1;
     }
 }
 
@@ -29,12 +27,10 @@ fn code_all(book: &[u8], c: Params, words: usize, messages: &[u8], word: &mut [u
 {
     let n = c.n;
     let k = n - c.degree;
-    let mut m = 0;
-    while m < words {
+    for m in 0..words {
         let from = m * k;
         coder::code(book, &messages[from..from + k], word);
         mix(word, n, words, m, out);
-        m += 1;
     }
 }
 

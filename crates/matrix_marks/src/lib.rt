@@ -37,10 +37,8 @@ fn marked(w: [u8; BLOCK], s: u8) -> [u8; BLOCK]
     ensures { result ≡ table 64 (λ j. indicator (eqb (place w j) s)) }
 {
     let mut out = [0u8; BLOCK];
-    let mut j = 0;
-    while j < BLOCK {
+    for j in 0..BLOCK {
         out[j] = (w[j] == s) as u8;
-        j += 1;
     }
     out
 }
@@ -50,11 +48,9 @@ fn mark(blocks: usize, w: &[u8], s: u8, to: usize, v: &mut [u8])
     requires { (64 * blocks ≤ length w.now) × (to + 64 * blocks ≤ length v.old) }
     ensures { Window to (64 * blocks) (λ j. indicator (eqb (place w.now j) s)) v.old v.new }
 {
-    let mut b = 0;
-    while b < blocks {
+    for b in 0..blocks {
         let m = marked(word_table::block(w, BLOCK * b), s);
         word_table::put_block(m, to + BLOCK * b, v);
-        b += 1;
     }
 }
 
@@ -63,13 +59,11 @@ fn mark_rows(n: usize, blocks: usize, rows: usize, terms: &[u16], w: &[u8], v: &
     requires { Markable (128 * blocks) (64 * blocks) n rows terms.now w.now v.old }
     ensures { Marked (128 * blocks) (64 * blocks) n rows (powers_in terms.now) w.now v.new }
 {
-    let mut e = 0;
-    while e < rows {
+    for e in 0..rows {
         let s = terms[POWERS_AT + e] as u8;
         let to = 2 * BLOCK * blocks * e;
         mark(blocks, w, s, to, v);
         mark(blocks, w, s, to + n, v);
-        e += 1;
     }
 }
 
@@ -78,10 +72,8 @@ fn add_marks(v: &[u8], from: usize, row: &mut [u8; BLOCK])
     requires { Addable 64 v.now from row.old }
     ensures { row.new ≡ table 64 (λ j. place row.old j + place v.now (from + j)) }
 {
-    let mut j = 0;
-    while j < BLOCK {
+    for j in 0..BLOCK {
         row[j] += v[from + j];
-        j += 1;
     }
 }
 
@@ -91,10 +83,8 @@ fn count_block(v: &[u8], start: usize, terms: &[u16], from: usize, weight: usize
     ensures { result ≡ table 64 (marks_of v.now start terms.now from weight) }
 {
     let mut row = [0u8; BLOCK];
-    let mut i = 0;
-    while i < weight {
+    for i in 0..weight {
         add_marks(v, start + (terms[from + i] as usize), &mut row);
-        i += 1;
     }
     row
 }
@@ -104,10 +94,8 @@ fn raise(row: [u8; BLOCK], to: usize, counts: &mut [u16])
     requires { (to + 64 ≤ length counts.old) × ((j : ℕ) → j < 64 → place counts.old (to + j) ≤ 65280) }
     ensures { Window to 64 (λ j. place counts.old (to + j) + place row j) counts.old counts.new }
 {
-    let mut j = 0;
-    while j < BLOCK {
+    for j in 0..BLOCK {
         counts[to + j] += row[j] as u16;
-        j += 1;
     }
 }
 
@@ -127,11 +115,9 @@ fn count_row(
     ensures { Window to (64 * blocks) (λ j. place counts.old (to + j) + marks_of v.now start terms.now from weight j)
         counts.old counts.new }
 {
-    let mut b = 0;
-    while b < blocks {
+    for b in 0..blocks {
         let row = count_block(v, start + BLOCK * b, terms, from, weight);
         raise(row, to + BLOCK * b, counts);
-        b += 1;
     }
 }
 
@@ -153,8 +139,7 @@ fn count_dual(
 {
     let rows = sizes::wide(field::order(p)) - 1;
     mark_rows(n, blocks, 2 * rows, terms, w, v);
-    let mut e = 0;
-    while e < rows {
+    for e in 0..rows {
         count_row(
             blocks,
             v,
@@ -165,7 +150,6 @@ fn count_dual(
             BLOCK * blocks * e,
             counts,
         );
-        e += 1;
     }
 }
 
@@ -174,10 +158,8 @@ fn gather_row(n: usize, to: usize, from: usize, counts: &[u16], m: &mut [u16])
     requires { (to + n ≤ length m.old) × (from + n ≤ length counts.now) }
     ensures { Window to n (λ j. place counts.now (from + j)) m.old m.new }
 {
-    let mut j = 0;
-    while j < n {
+    for j in 0..n {
         m[to + j] = counts[from + j];
-        j += 1;
     }
 }
 
@@ -187,10 +169,8 @@ fn gather(p: u8, n: usize, blocks: usize, terms: &[u16], counts: &[u16], m: &mut
     ensures { Gathered (64 * blocks) p n terms.now counts.now m.new }
 {
     let q = sizes::wide(field::order(p));
-    let mut i: usize = 1;
-    while i < q {
+    for i in 1..q {
         gather_row(n, i * n, BLOCK * blocks * (terms[i] as usize), counts, m);
-        i += 1;
     }
 }
 
@@ -217,8 +197,7 @@ fn count_duals(
     let weight = terms[WEIGHT_AT] as usize;
     let blocks = sizes::blocks(n);
     let mut w = product_room();
-    let mut l = 0;
-    while l < duals {
+    for l in 0..duals {
         matrix_terms::product(l, p, n, duals, terms, t, &mut w);
         count_dual(
             p,
@@ -231,7 +210,6 @@ fn count_duals(
             v,
             counts,
         );
-        l += 1;
     }
 }
 

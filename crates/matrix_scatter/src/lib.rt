@@ -13,7 +13,7 @@ ghost use Rattle.matrix_scatter.specs.Scatter.{Countable, terms_add, RowGathered
 ghost use Rattle.matrix_scatter.specs.Fill.{Cleared, Scattering, Scattered};
 
 use matrix_terms::{TERMS_AT, WEIGHT_AT};
-use sizes::{BLOCK, SPAN, STRIDE, SYMBOLS};
+use sizes::{BLOCK, EIGHT, SPAN, STRIDE, SYMBOLS};
 
 // The counters that a room has where they are few.
 const FEW_COUNTERS: usize = 3072;
@@ -43,10 +43,8 @@ fn row_starts(p: u8, n: usize, terms: &[u16]) -> [u16; SYMBOLS]
     let width = (n + 1) as u16;
     let mut out = [0u16; SYMBOLS];
     out[0] = 2 * ((q - 1) as u16) * width;
-    let mut c = 1;
-    while c < q {
+    for c in 1..q {
         out[c] = terms[c] * width;
-        c += 1;
     }
     out
 }
@@ -56,12 +54,10 @@ fn offsets(n: usize, starts: [u16; SYMBOLS], w: &[u8], out: &mut [u16])
     requires { (n ≤ 255) × (n ≤ length w.now) × (n + n ≤ length out.old) × Started n starts w.now }
     ensures { Offsets n starts w.now out.old out.new }
 {
-    let mut j = 0;
-    while j < n {
+    for j in 0..n {
         let to = starts[w[j] as usize] + (j as u16);
         out[j] = to;
         out[n + j] = to + (n as u16);
-        j += 1;
     }
 }
 
@@ -106,10 +102,8 @@ fn count_cells(n: usize, cells: &[u16], h: usize, base: usize, counts: &mut [u16
     requires { (n ≤ 255) × ((n + 1) % 8 ≡ 0) × Within cells.now h base (n + 1) counts.old 65200 }
     ensures { counts.new ≡ raised counts.old (λ k. total (n + 1) (cell_adds cells.now h base k)) }
 {
-    let mut j = 0;
-    while j < n {
+    for j in (0..n).step_by(EIGHT) {
         count_eight(cells, h + j, base, counts);
-        j += 8;
     }
 }
 
@@ -122,14 +116,12 @@ fn count_dual(l: usize, p: u8, n: usize, cells: &[u16], terms: &[u16], counts: &
     let weight = terms[WEIGHT_AT] as usize;
     let from = TERMS_AT + BLOCK * sizes::blocks(n) * l;
     let shift = sizes::shift(n);
-    let mut i = 0;
-    while i < weight {
+    for i in 0..weight {
         let t = terms[from + i] as usize;
         let log = t >> shift;
         let h = t - (log << shift);
         let base = (last - log) * (n + 1) - h;
         count_cells(n, cells, h, base, counts);
-        i += 1;
     }
 }
 
@@ -138,10 +130,8 @@ fn gather_row(n: usize, from: usize, low: usize, high: usize, counts: &[u16], m:
     requires { (from + n ≤ length m.old) × (low + n ≤ length counts.now) × (high + n ≤ length counts.now) × ((k : ℕ) → place counts.now k ≤ 8160) }
     ensures { RowGathered n from low high counts.now m.old m.new }
 {
-    let mut j = 0;
-    while j < n {
+    for j in 0..n {
         m[from + j] = counts[low + j] + counts[high + j];
-        j += 1;
     }
 }
 
@@ -151,11 +141,9 @@ fn gather(p: u8, n: usize, terms: &[u16], counts: &[u16], m: &mut [u16])
     ensures { Gathered p n terms.now counts.now m.old m.new }
 {
     let q = sizes::wide(field::order(p));
-    let mut i = 1;
-    while i < q {
+    for i in 1..q {
         let e = terms[i] as usize;
         gather_row(n, i * n, e * (n + 1), (e + (q - 1)) * (n + 1), counts, m);
-        i += 1;
     }
 }
 
@@ -169,12 +157,10 @@ fn count_duals(p: u8, n: usize, duals: usize, terms: &[u16], r: &[u8], counts: &
     word_table::tabulate(p, n, r, 0, &mut t);
     let mut w = [0u8; SPAN];
     let mut cells = [0u16; STRIDE];
-    let mut l = 0;
-    while l < duals {
+    for l in 0..duals {
         matrix_terms::product(l, p, n, duals, terms, &t, &mut w);
         offsets(n, starts, &w, &mut cells);
         count_dual(l, p, n, &cells, terms, counts);
-        l += 1;
     }
 }
 

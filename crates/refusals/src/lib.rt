@@ -32,10 +32,8 @@ pub fn symbols_ok(q: u8, input: &[u8]) -> bool
     ensures { result ≡ input_ok q input.now }
 {
     let mut ok = true;
-    let mut j = 0;
-    while j < input.len() {
+    for j in 0..input.len() {
         ok &= input[j] < q;
-        j += 1;
     }
     ok
 }

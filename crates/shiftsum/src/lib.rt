@@ -228,10 +228,8 @@ pub fn shiftsum_burst(
         answers.new (list_bytes records.new) }
 {
     let made = burst_made(book, words, received, answers, records.len());
-    let mut m = 0;
-    while m < made.count {
+    for m in 0..made.count {
         records[m] = record_at(made, m);
-        m += 1;
     }
     made.number as u32
 }

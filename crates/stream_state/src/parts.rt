@@ -24,10 +24,8 @@ pub fn fill(part: &mut [u8], have: usize, size: usize, bytes: &[u8]) -> usize
     ensures { Filled part.old have size bytes.now part.new result }
 {
     let count = least(size - have, bytes.len());
-    let mut k = 0;
-    while k < count {
+    for k in 0..count {
         part[have + k] = bytes[k];
-        k += 1;
     }
     count
 }

@@ -56,12 +56,10 @@ fn put_hex(out: &mut [u8], at: usize, bytes: &[u8]) -> usize
     ensures value { result ≡ at + 2 * length bytes.now }
 {
     let mut next = at;
-    let mut i = 0;
-    while i < bytes.len() {
+    for i in 0..bytes.len() {
         let b = bytes[i];
         let high = put(out, next, digit(b / 16));
         next = put(out, high, digit(b % 16));
-        i += 1;
     }
     next
 }

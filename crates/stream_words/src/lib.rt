@@ -53,13 +53,9 @@ pub fn put_words(
     ensures { Printed out.old at (lines_of book.now count words.now) out.new result
         × (result ≤ at + 6 * length words.now) × TermsRoom book.now c terms.new }
 {
-    let n = c.n;
     let mut next = at;
-    let mut i = 0;
-    while i < words.len() {
-        let e = i + n;
-        next = put_word(book, c, t, terms, &words[i..e], answer, entries, out, next);
-        i = e;
+    for word in words.chunks_exact(c.n) {
+        next = put_word(book, c, t, terms, word, answer, entries, out, next);
     }
     next
 }

@@ -17,10 +17,8 @@ pub fn load(s: &[u8], start: usize, n: usize) -> Word
     ensures { result ≡ padded 255 n (λ j. place s.now (start + j)) }
 {
     let mut w = [0u8; WIDTH];
-    let mut j = 0;
-    while j < n {
+    for j in 0..n {
         w[j] = s[start + j];
-        j += 1;
     }
     w
 }
@@ -31,10 +29,8 @@ pub fn store(w: &[u8], out: &mut [u8])
     ensures { out.new ≡ table (length out.old) (place w.now) }
 {
     let n = out.len();
-    let mut j = 0;
-    while j < n {
+    for j in 0..n {
         out[j] = w[j];
-        j += 1;
     }
 }
 
@@ -44,14 +40,12 @@ pub fn add_eights(a: &[u8], b: &[u8], out: &mut [u8])
     ensures { out.new ≡ table (length out.old) (λ j. bit_xor (place a.now j) (place b.now j)) }
 {
     let eights = out.len() / EIGHT;
-    let mut i = 0;
-    while i < eights {
+    for i in 0..eights {
         let at = EIGHT * i;
         let end = at + EIGHT;
         let x = word_packed::pack(&a[at..end]);
         let y = word_packed::pack(&b[at..end]);
         word_packed::unpack(x ^ y, &mut out[at..end]);
-        i += 1;
     }
 }
 
@@ -63,10 +57,8 @@ pub fn add(n: usize, a: &[u8], b: &[u8]) -> Word
     let mut w = [0u8; WIDTH];
     let whole = sizes::packed_places(n);
     add_eights(&a[0..whole], &b[0..whole], &mut w[0..whole]);
-    let mut j = whole;
-    while j < n {
+    for j in whole..n {
         w[j] = a[j] ^ b[j];
-        j += 1;
     }
     w
 }
@@ -77,10 +69,8 @@ pub fn is_zero(n: usize, w: &[u8]) -> bool
     ensures { result ≡ all_zero n w.now }
 {
     let mut found: u8 = 0;
-    let mut j = 0;
-    while j < n {
+    for j in 0..n {
         found += (w[j] != 0) as u8;
-        j += 1;
     }
     found == 0
 }
@@ -91,10 +81,8 @@ pub fn distance(n: usize, a: &[u8], b: &[u8]) -> usize
     ensures { (result ≡ distance n (place a.now) (place b.now)) × (result ≤ n) }
 {
     let mut count: u8 = 0;
-    let mut j = 0;
-    while j < n {
+    for j in 0..n {
         count += (a[j] != b[j]) as u8;
-        j += 1;
     }
     count as usize
 }

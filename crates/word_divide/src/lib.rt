@@ -54,10 +54,8 @@ fn add_row_at(blocks: usize, t: &[u8], from: usize, i: usize, v: &mut [u8])
     requires { (from + 64 * blocks ≤ length t.now) × (i + 64 * blocks ≤ length v.old) }
     ensures { AddedAt t.now from i (64 * blocks) v.old v.new }
 {
-    let mut b = 0;
-    while b < blocks {
+    for b in 0..blocks {
         add_block_at(t, from + BLOCK * b, i + BLOCK * b, v);
-        b += 1;
     }
 }
 
@@ -68,9 +66,7 @@ fn divide_in(p: u8, n: usize, d: usize, k: usize, t: &[u8], v: &mut [u8], quotie
     ensures { DividedBy p k d (word_of (stride n) n t.now) (place v.old) quotient.new v.new }
 {
     let blocks = sizes::blocks(n);
-    let mut i = k - d;
-    while 0 < i {
-        i -= 1;
+    for i in (0..k - d).rev() {
         let top = v[i + d];
         quotient[i] = top;
         add_row_at(blocks, t, 2 * BLOCK * blocks * sizes::wide(top), i, v);
@@ -82,10 +78,8 @@ fn copy(n: usize, w: &[u8], v: &mut [u8])
     requires { (n ≤ length w.now) × (n ≤ length v.old) }
     ensures { Window 0 n (place w.now) v.old v.new }
 {
-    let mut j = 0;
-    while j < n {
+    for j in 0..n {
         v[j] = w[j];
-        j += 1;
     }
 }
 
@@ -115,10 +109,8 @@ fn put_unity(n: usize, v: &mut [u8])
     requires { (1 ≤ n) × (n < length v.old) }
     ensures { Window 0 (n + 1) (unity n) v.old v.new }
 {
-    let mut j = 0;
-    while j < n {
+    for j in 0..n {
         v[j] = 0;
-        j += 1;
     }
     v[0] = 1;
     v[n] = 1;

@@ -20,10 +20,8 @@ pub fn pack(e: &[u8]) -> u64
     ensures { (result ≡ packed 8 8 (λ k. get_or e.now k 0)) × Narrow 8 8 (λ k. get_or e.now k 0) }
 {
     let mut x: u64 = 0;
-    let mut k: usize = 0;
-    while k < EIGHT {
+    for k in 0..EIGHT {
         x = x | (wide(e[k]) << sizes::digits_below(k));
-        k += 1;
     }
     x
 }
@@ -33,9 +31,7 @@ pub fn unpack(x: u64, e: &mut [u8])
     requires { length e.old ≡ 8 }
     ensures { e.new ≡ table 8 (λ k. lane 8 k x) }
 {
-    let mut k: usize = 0;
-    while k < EIGHT {
+    for k in 0..EIGHT {
         e[k] = ((x >> sizes::digits_below(k)) & 255) as u8;
-        k += 1;
     }
 }

@@ -9,6 +9,3 @@ use Rattle.book_records.proofs.block_ok.Given as goal
 
 abbrev pub invariant-loop-j : goal.invariant-loop-j
 invariant-loop-j l = Counted 64 (λ j. leb (get_or l.bounds (l.at + j) 0) (byte l.book (l.start + (l.at + j)))) l.j l.bad
-
-abbrev pub decreases-loop-j : goal.decreases-loop-j
-decreases-loop-j l = 64 - l.j

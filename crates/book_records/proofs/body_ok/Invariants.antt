@@ -6,6 +6,3 @@ use Rattle.book_records.proofs.body_ok.Given as goal
 
 abbrev pub invariant-loop-b : goal.invariant-loop-b
 invariant-loop-b l = Bounded l.book l.bounds l.start l.blocks l.b l.ok
-
-abbrev pub decreases-loop-b : goal.decreases-loop-b
-decreases-loop-b l = l.blocks - l.b

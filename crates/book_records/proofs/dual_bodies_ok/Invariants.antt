@@ -8,6 +8,3 @@ use Rattle.book_records.proofs.dual_bodies_ok.Given as goal
 
 abbrev pub invariant-loop-l : goal.invariant-loop-l
 invariant-loop-l s = Passing (duals_in s.book) (λ l. body_ok s.book (dual_at (width s.book) l)) s.l
-
-abbrev pub decreases-loop-l : goal.decreases-loop-l
-decreases-loop-l s = s.count - s.l

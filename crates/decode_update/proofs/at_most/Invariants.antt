@@ -8,6 +8,3 @@ use Rattle.decode_update.proofs.at_most.Given as goal
 
 abbrev pub invariant-loop-b : goal.invariant-loop-b
 invariant-loop-b l = Blocked l.blocks (λ k. leb (place l.row k) l.x) l.b l.count
-
-abbrev pub decreases-loop-b : goal.decreases-loop-b
-decreases-loop-b l = l.blocks - l.b

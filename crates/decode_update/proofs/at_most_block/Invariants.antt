@@ -8,6 +8,3 @@ use Rattle.decode_update.proofs.at_most_block.Given as goal
 
 abbrev pub invariant-loop-j : goal.invariant-loop-j
 invariant-loop-j l = Counted 64 (λ k. leb (place l.row (l.from + k)) l.x) l.j l.count
-
-abbrev pub decreases-loop-j : goal.decreases-loop-j
-decreases-loop-j l = 64 - l.j

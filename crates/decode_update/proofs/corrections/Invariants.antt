@@ -9,6 +9,3 @@ use Rattle.decode_update.proofs.corrections.Given as goal
 abbrev pub invariant-loop-j : goal.invariant-loop-j
 invariant-loop-j l =
     (l.j ≤ l.n) × Held 255 l.j (λ j. admitted l.places (at_most l.n l.m (place l.m j)) (at_least l.n l.counts (place l.counts j)) (place l.symbols j)) l.e
-
-abbrev pub decreases-loop-j : goal.decreases-loop-j
-decreases-loop-j l = l.n - l.j

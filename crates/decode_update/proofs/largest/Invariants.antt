@@ -6,6 +6,3 @@ use Rattle.decode_update.proofs.largest.Given as goal
 
 abbrev pub invariant-loop-j : goal.invariant-loop-j
 invariant-loop-j l = (l.j ≤ l.n) × ((k : ℕ) → k < l.j → place l.a k ≤ l.most)
-
-abbrev pub decreases-loop-j : goal.decreases-loop-j
-decreases-loop-j l = l.n - l.j

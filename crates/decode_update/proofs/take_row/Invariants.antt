@@ -6,6 +6,3 @@ use Rattle.decode_update.proofs.take_row.Given as goal
 
 abbrev pub invariant-loop-j : goal.invariant-loop-j
 invariant-loop-j l = Taking l.row l.symbol l.initial.counts l.initial.symbols l.j l.counts l.symbols
-
-abbrev pub decreases-loop-j : goal.decreases-loop-j
-decreases-loop-j l = l.n - l.j

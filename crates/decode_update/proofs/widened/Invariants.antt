@@ -7,6 +7,3 @@ use Rattle.decode_update.proofs.widened.Given as goal
 
 abbrev pub invariant-loop-j : goal.invariant-loop-j
 invariant-loop-j l = (l.j ≤ l.n) × Over l.j (place l.a) l.initial.w l.w × ((k : ℕ) → k < l.j → place l.a k ≤ 65535)
-
-abbrev pub decreases-loop-j : goal.decreases-loop-j
-decreases-loop-j l = l.n - l.j

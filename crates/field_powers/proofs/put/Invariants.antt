@@ -6,6 +6,3 @@ use Rattle.field_powers.proofs.put.Given as goal
 
 abbrev pub invariant-loop-e : goal.invariant-loop-e
 invariant-loop-e l = Logging l.p l.round l.initial.room l.room l.symbol l.e
-
-abbrev pub decreases-loop-e : goal.decreases-loop-e
-decreases-loop-e l = l.round - l.e

@@ -9,6 +9,3 @@ use Rattle.refusals.proofs.symbols_ok.Given as goal
 
 abbrev pub invariant-loop-j : goal.invariant-loop-j
 invariant-loop-j l = (l.j ≤ length l.input) × (l.ok ≡ all l.j (λ j. ltb (get_or l.input j 0) l.q))
-
-abbrev pub decreases-loop-j : goal.decreases-loop-j
-decreases-loop-j l = length l.input - l.j

@@ -6,6 +6,3 @@ use Rattle.shiftsum.proofs.shiftsum_burst.Given as goal
 
 abbrev pub invariant-loop-m : goal.invariant-loop-m
 invariant-loop-m l = (l.m ≤ l.made.count) × (l.records ≡ upto l.m l.made.records l.initial.records)
-
-abbrev pub decreases-loop-m : goal.decreases-loop-m
-decreases-loop-m l = l.made.count - l.m

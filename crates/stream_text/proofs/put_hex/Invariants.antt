@@ -9,6 +9,3 @@ use Rattle.stream_text.proofs.put_hex.Given as goal
 
 abbrev pub invariant-loop-i : goal.invariant-loop-i
 invariant-loop-i l = (l.i ≤ length l.bytes) × (l.next ≡ l.at + 2 * l.i) × Printed l.initial.out l.at (hex_of (take l.i l.bytes)) l.out l.next
-
-abbrev pub decreases-loop-i : goal.decreases-loop-i
-decreases-loop-i l = length l.bytes - l.i

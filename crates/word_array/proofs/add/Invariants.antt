@@ -8,6 +8,3 @@ use Rattle.word_array.proofs.add.Given as goal
 
 abbrev pub invariant-loop-j : goal.invariant-loop-j
 invariant-loop-j l = (l.j ≤ l.n) × Held 255 l.j (λ j. bit_xor (place l.a j) (place l.b j)) l.w
-
-abbrev pub decreases-loop-j : goal.decreases-loop-j
-decreases-loop-j l = l.n - l.j

@@ -8,6 +8,3 @@ use Rattle.word_array.proofs.add_eights.Given as goal
 
 abbrev pub invariant-loop-i : goal.invariant-loop-i
 invariant-loop-i l = (l.i ≤ l.eights) × Over (8 * l.i) (λ j. bit_xor (place l.a j) (place l.b j)) l.initial.out l.out
-
-abbrev pub decreases-loop-i : goal.decreases-loop-i
-decreases-loop-i l = l.eights - l.i

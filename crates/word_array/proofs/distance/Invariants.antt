@@ -9,6 +9,3 @@ use Rattle.word_array.proofs.distance.Given as goal
 
 abbrev pub invariant-loop-j : goal.invariant-loop-j
 invariant-loop-j l = Counted l.n (λ i. not (eqb (place l.a i) (place l.b i))) l.j l.count
-
-abbrev pub decreases-loop-j : goal.decreases-loop-j
-decreases-loop-j l = l.n - l.j

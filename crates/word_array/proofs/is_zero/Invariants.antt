@@ -8,6 +8,3 @@ use Rattle.word_array.proofs.is_zero.Given as goal
 
 abbrev pub invariant-loop-j : goal.invariant-loop-j
 invariant-loop-j l = Counted l.n (λ i. nonzero (place l.w i)) l.j l.found
-
-abbrev pub decreases-loop-j : goal.decreases-loop-j
-decreases-loop-j l = l.n - l.j

@@ -7,6 +7,3 @@ use Rattle.word_array.proofs.load.Given as goal
 
 abbrev pub invariant-loop-j : goal.invariant-loop-j
 invariant-loop-j l = (l.j ≤ l.n) × Held 255 l.j (λ j. place l.s (l.start + j)) l.w
-
-abbrev pub decreases-loop-j : goal.decreases-loop-j
-decreases-loop-j l = l.n - l.j

@@ -7,6 +7,3 @@ use Rattle.word_packed.proofs.pack.Given as goal
 
 abbrev pub invariant-loop-k : goal.invariant-loop-k
 invariant-loop-k l = (l.k ≤ 8) × Gathered 8 l.k (λ k. get_or l.e k 0) l.x
-
-abbrev pub decreases-loop-k : goal.decreases-loop-k
-decreases-loop-k l = 8 - l.k

@@ -7,6 +7,3 @@ use Rattle.word_packed.proofs.unpack.Given as goal
 
 abbrev pub invariant-loop-k : goal.invariant-loop-k
 invariant-loop-k l = (l.k ≤ 8) × Over l.k (λ k. lane 8 k l.x) l.initial.e l.e
-
-abbrev pub decreases-loop-k : goal.decreases-loop-k
-decreases-loop-k l = 8 - l.k

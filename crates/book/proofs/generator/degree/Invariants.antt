@@ -7,6 +7,3 @@ use Rattle.book.proofs.generator.degree.Given as goal
 
 abbrev pub invariant-loop-i : goal.invariant-loop-i
 invariant-loop-i l = (l.i ≤ l.n) × (l.d ≤ l.i) × (l.d ≡ degree_of l.i (book_of l.book).generator)
-
-abbrev pub decreases-loop-i : goal.decreases-loop-i
-decreases-loop-i l = l.n - l.i

@@ -7,6 +7,3 @@ use Rattle.burst.proofs.words.decode_all.Given as goal
 abbrev pub invariant-loop-m : goal.invariant-loop-m
 invariant-loop-m l =
     SoFar l.book l.c l.words l.received l.initial.answers l.initial.terms l.m l.terms l.answers l.entries l.records
-
-abbrev pub decreases-loop-m : goal.decreases-loop-m
-decreases-loop-m l = l.words - l.m

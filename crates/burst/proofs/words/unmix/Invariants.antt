@@ -7,6 +7,3 @@ use Rattle.burst.proofs.words.unmix.Given as goal
 
 abbrev pub invariant-loop-j : goal.invariant-loop-j
 invariant-loop-j l = (l.j ≤ l.n) × Held 255 l.j (λ j. place l.received (j * l.words + l.m)) l.w
-
-abbrev pub decreases-loop-j : goal.decreases-loop-j
-decreases-loop-j l = l.n - l.j

@@ -8,6 +8,3 @@ use Rattle.game.proofs.taking.held.Given as goal
 
 abbrev pub invariant-loop-m : goal.invariant-loop-m
 invariant-loop-m l = (l.m ≤ l.made.count) × (l.held ≡ held_records l.m (made_bytes l.made))
-
-abbrev pub decreases-loop-m : goal.decreases-loop-m
-decreases-loop-m l = l.made.count - l.m

@@ -6,6 +6,3 @@ use Rattle.game.proofs.words.read_all.Given as goal
 
 abbrev pub invariant-loop-m : goal.invariant-loop-m
 invariant-loop-m l = ReadSoFar l.c l.t l.words l.answers l.initial.messages l.m l.messages
-
-abbrev pub decreases-loop-m : goal.decreases-loop-m
-decreases-loop-m l = l.words - l.m

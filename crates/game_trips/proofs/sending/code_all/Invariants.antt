@@ -10,6 +10,3 @@ use Rattle.game_trips.proofs.sending.code_all.Given as goal
 
 abbrev pub invariant-loop-m : goal.invariant-loop-m
 invariant-loop-m l = SoFar l.n l.words (λ i. coded l.book (part l.k l.messages i)) l.initial.out l.m l.out × (length l.word ≡ l.n)
-
-abbrev pub decreases-loop-m : goal.decreases-loop-m
-decreases-loop-m l = l.words - l.m

@@ -6,6 +6,3 @@ use Rattle.stream_state.proofs.parts.fill.Given as goal
 
 abbrev pub invariant-loop-k : goal.invariant-loop-k
 invariant-loop-k l = Joined l.initial.part l.have l.bytes l.part l.k × (l.k ≤ l.count)
-
-abbrev pub decreases-loop-k : goal.decreases-loop-k
-decreases-loop-k l = l.count - l.k
