@@ -1,11 +1,11 @@
 -- What opening a book answers and leaves, and the room that it and a matrix take.
 -- Assumes nothing.
-use Rattle.std.specs.Prelude.{◌≡◌, Bool, true, false, cond, List, ℕ, ◌*◌, ◌^◌, ◌<◌, ◌≤◌, ltb}
+use Rattle.std.specs.Prelude.{◌≡◌, Bool, true, false, cond, List, ℕ, ◌*◌, ◌^◌, ◌<◌, ◌≤◌, ltb, Result, Ok, Err}
 use Rattle.spec_book.specs.Layout.{is_long, symbol_digits, word_length, duals_in, book_of}
 use Rattle.spec_book.specs.Conditions.{refusal}
 use Rattle.book.specs.Params.{Read, Tabulated, Describes}
-use Rattle.book.specs.declared.Opened.{Opened}
-use Rattle.book.specs.declared.Opened.TheVariants.{Open, Refused}
+use Rattle.refusal.specs.declared.Refusal.{Refusal}
+use Rattle.refusal.specs.Number.{number_of}
 use Rattle.book.specs.declared.Params.{Params}
 
 -- p is below 4, whatever else the bytes are
@@ -23,6 +23,10 @@ pub record MatrixBound (bytes : List ℕ) (size : ℕ) : Type 0 where
   pub few : few_symbols bytes ≡ true → size ≤ 2040
   pub few_short : few_symbols bytes ≡ true → is_long bytes ≡ false → size ≤ 504
 
+-- a room of so many entries holds the matrix, as long as it is known to be
+pub record MatrixFits (bytes : List ℕ) (entries : ℕ) : Type 0 where
+  pub fits : (size : ℕ) → MatrixBound bytes size → size ≤ entries
+
 -- what the conditions 5 to 8 are asked of: c was read off readable bytes, and t is the table of the generator's multiples
 pub record Gathered (bytes : List ℕ) (c : Params) (t : List ℕ) : Type 0 where
   pub read : Read bytes c.p c.n
@@ -33,9 +37,9 @@ pub record Gathered (bytes : List ℕ) (c : Params) (t : List ℕ) : Type 0 wher
   pub duals_is : c.duals ≡ duals_in bytes
 
 -- the answer to opening bytes, and the room t that was lent: the bytes are described and the table is made, or the number is theirs
-abbrev pub Opens : List ℕ → Opened → List ℕ → Type 0
-Opens bytes (Open c) t = Describes bytes c × Tabulated bytes c.p c.n t
-Opens bytes (Refused number) t = (number ≡ refusal bytes) × (0 < number)
+abbrev pub Opens : List ℕ → Result Params Refusal → List ℕ → Type 0
+Opens bytes (Ok c) t = Describes bytes c × Tabulated bytes c.p c.n t
+Opens bytes (Err why) t = (number_of why ≡ refusal bytes) × (0 < number_of why)
 
 -- what was read off bytes that are accepted, and the table of their generator's multiples
 pub record OpenBook (bytes : List ℕ) (c : Params) (t : List ℕ) : Type 0 where

@@ -1,20 +1,20 @@
--- What the code reads off a book's bytes once, and the enum that `check` answers.
+-- What the code reads off a book's bytes once, and what `check` answers.
 -- Assumes nothing.
-use Rattle.std.specs.Prelude.{◌≡◌, Bool, ◌&&◌, List, [], ◌∷◌, ℕ, ◌%◌, ◌≤◌, leb}
+use Rattle.std.specs.Prelude.{◌≡◌, Bool, ◌&&◌, List, [], ◌∷◌, ℕ, ◌%◌, ◌≤◌, leb, Result, Ok, Err}
 use Rattle.spec_field.specs.Answer.{Answer, done, refused}
 use Rattle.sizes.specs.Blocks.{stride}
 use Rattle.word_table.specs.Multiples.{word_of, Multiples}
 use Rattle.spec_book.specs.Layout.{width, generator_at, body_place, symbol_digits, word_length, Whole, book_of}
 use Rattle.spec_book.specs.Conditions.{refusal}
 use Rattle.book_records.specs.Records.{Readable}
-use Rattle.book.specs.declared.Checked.{Checked}
-use Rattle.book.specs.declared.Checked.TheVariants.{Accepted, Refused}
+use Rattle.refusal.specs.declared.Refusal.{Refusal}
+use Rattle.refusal.specs.Number.{number_of}
 use Rattle.book.specs.declared.Params.{Params}
 
--- the number and the value that each case of the enum stands for
-abbrev pub said : Checked → Answer
-said (Accepted L) = done (L ∷ [])
-said (Refused number) = refused number
+-- the count of dual words, or the number
+abbrev pub said : Result ℕ Refusal → Answer
+said (Ok L) = done (L ∷ [])
+said (Err why) = refused (number_of why)
 
 -- n is the length of the words in bytes of a right length
 pub record Sized (bytes : List ℕ) (n : ℕ) : Type 0 where

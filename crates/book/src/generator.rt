@@ -2,13 +2,21 @@
 ghost use Rattle.std.specs.Prelude.{◌≡◌, ◌+◌, ◌<◌, ◌≤◌, length};
 ghost use Rattle.spec_book.specs.Layout.{width, degree_of, field_of, book_of};
 ghost use Rattle.spec_book.specs.Conditions.{generator_ok};
+ghost use Rattle.spec_field.specs.Symbols.{gf};
+ghost use Rattle.spec_word.specs.CyclicCode.{unity};
+ghost use Rattle.spec_word.specs.Division.{divides};
+ghost use Rattle.sizes.specs.Blocks.{span, stride};
+ghost use Rattle.word_array.specs.Stored.{Sizes};
+ghost use Rattle.word_table.specs.Multiples.{word_of, Multiples};
 ghost use Rattle.book.specs.Params.{limits_test};
 ghost use Rattle.book.specs.Opened.{Gathered};
 
 use crate::Params;
 use book_duals::GENERATOR;
-use sizes::BLOCK;
+use sizes::{BLOCK, SPAN, STRIDE};
 
+// The places of a row of a table where words take a single block.
+const SHORT: usize = 2 * BLOCK;
 // The most rounds that a book may ask for.
 pub const ROUNDS: u8 = 63;
 
@@ -26,7 +34,7 @@ pub fn degree(book: &[u8], n: usize) -> usize
     d
 }
 
-// 5: the generator has degree 1 or more and leading coefficient 1, and the remainder of x^n - 1 is zero. t is the table of its multiples. The buffers go by the
+// 5: the generator has degree 1 or more and leading coefficient 1, and the remainder of x^n - 1 is zero. t is the table of its multiples. The rooms go by the
 // length of words: to clear larger ones costs time.
 pub fn generator_ok(book: &[u8], c: Params, t: &[u8]) -> bool
     requires { Gathered book.now c t.now }
@@ -41,15 +49,21 @@ pub fn generator_ok(book: &[u8], c: Params, t: &[u8]) -> bool
         return false;
     }
     if c.n < BLOCK {
-        let mut rest = word_divide::short_room();
-        let mut quotient = word_divide::short_quotient_room();
-        word_divide::divide_unity(c.p, c.n, d, t, &mut rest, &mut quotient);
-        return word_array::is_zero(d, &rest);
+        divides_unity::<SHORT, BLOCK>(c, t)
+    } else {
+        divides_unity::<STRIDE, SPAN>(c, t)
     }
-    let mut rest = word_divide::room();
-    let mut quotient = word_divide::quotient_room();
-    word_divide::divide_unity(c.p, c.n, d, t, &mut rest, &mut quotient);
-    word_array::is_zero(d, &rest)
+}
+
+// Whether the remainder of x^n - 1 is zero, with rooms of so many places for the division and its quotient.
+fn divides_unity<const ROOM: usize, const QUOTIENT: usize>(c: Params, t: &[u8]) -> bool
+    requires { Sizes c.p c.n × (1 ≤ c.degree) × (c.degree < c.n) × Multiples (stride c.n) c.p c.n t.now × (c.n + span c.n ≤ ROOM) × (c.n ≤ QUOTIENT) }
+    ensures { result ≡ divides (gf c.p) (word_of (stride c.n) c.n t.now) c.degree (c.n + 1) (unity c.n) }
+{
+    let mut rest = [0u8; ROOM];
+    let mut quotient = [0u8; QUOTIENT];
+    word_divide::divide_unity(c.p, c.n, c.degree, t, &mut rest, &mut quotient);
+    word_array::is_zero(c.degree, &rest)
 }
 
 // 6: the most rounds from 1 to 63, the most places from 1 to n.

@@ -9,17 +9,11 @@ ghost use Rattle.spec_operations.specs.Check.{check_answer};
 ghost use Rattle.book.specs.Params.{said};
 ghost use Rattle.book.specs.Opened.{few_symbols, table_room, MatrixBound, Opens};
 
-use sizes::GENERATOR_AT;
+use refusal::Refusal;
+use sizes::{FEW_TABLE, GENERATOR_AT, TABLE};
 
 mod conditions;
 mod generator;
-
-// Accepted, with the count of dual words, or refused, with the number of SCOPE 7.
-#[derive(Clone, Copy)]
-pub enum Checked {
-    Accepted(u8),
-    Refused(u8),
-}
 
 // What coding and decoding read off an accepted book.
 #[derive(Clone, Copy)]
@@ -30,13 +24,6 @@ pub struct Params {
     pub rounds: u8,
     pub places: usize,
     pub duals: usize,
-}
-
-// An accepted book, by what was read off it, or the number of its refusal.
-#[derive(Clone, Copy)]
-pub enum Opened {
-    Open(Params),
-    Refused(u8),
 }
 
 // Whether a book's p tells of few symbols, whatever the book. One that ends before p needs no more room than those.
@@ -90,20 +77,17 @@ fn most_digits(book: &[u8]) -> u8
     if book_layout::is_long(book) { 4 } else { 6 }
 }
 
-// Opens a book: checks it, and leaves the table of its generator's multiples in t.
-pub fn open(book: &[u8], t: &mut [u8]) -> Opened
+// Opens a book: checks it, tells what was read off it, and leaves the table of its generator's multiples in t.
+pub fn open(book: &[u8], t: &mut [u8]) -> Result<Params, Refusal>
     requires { table_room book.now ≤ length t.old }
     ensures { Opens book.now result t.new × (length t.new ≡ length t.old) }
 {
-    let number = book_records::refusal(book);
-    if number != 0 {
-        return Opened::Refused(number);
-    }
+    book_records::refusal(book)?;
     open_readable(book, t)
 }
 
 // The same where none of the numbers 1 to 4 applies. Everything is read once, and what is read serves the other conditions and the caller.
-fn open_readable(book: &[u8], t: &mut [u8]) -> Opened
+fn open_readable(book: &[u8], t: &mut [u8]) -> Result<Params, Refusal>
     requires { Readable book.now × (stride (word_length book.now) * 2 ^ symbol_digits book.now ≤ length t.old) }
     ensures { Opens book.now result t.new × (length t.new ≡ length t.old) }
 {
@@ -119,33 +103,27 @@ fn open_readable(book: &[u8], t: &mut [u8]) -> Opened
         places: sizes::wide(book[limits + 2]),
         duals: book_records::dual_count(book),
     };
-    let number = conditions::refusal(book, c, t);
-    if number != 0 {
-        return Opened::Refused(number);
-    }
-    Opened::Open(c)
+    conditions::refusal(book, c, t)?;
+    Ok(c)
 }
 
-// Check a codebook.
-pub fn check(book: &[u8]) -> Checked
+// Check a codebook: the count of its dual words.
+pub fn check(book: &[u8]) -> Result<u8, Refusal>
     ensures { said result ≡ check_answer book.now }
 {
     if small_table(book) {
-        let mut t = word_table::few_table_room();
-        return check_in(book, &mut t);
+        check_in::<FEW_TABLE>(book)
+    } else {
+        check_in::<TABLE>(book)
     }
-    let mut t = word_table::table_room();
-    check_in(book, &mut t)
 }
 
-// The same, with room for the table.
-fn check_in(book: &[u8], t: &mut [u8]) -> Checked
-    requires { table_room book.now ≤ length t.old }
+// The same with room for a table of so many places.
+fn check_in<const TABLE: usize>(book: &[u8]) -> Result<u8, Refusal>
+    requires { table_room book.now ≤ TABLE }
     ensures { said result ≡ check_answer book.now }
 {
-    let opened = open(book, t);
-    match opened {
-        Opened::Open(c) => Checked::Accepted(c.duals as u8),
-        Opened::Refused(number) => Checked::Refused(number),
-    }
+    let mut t = [0u8; TABLE];
+    let c = open(book, &mut t)?;
+    Ok(c.duals as u8)
 }

@@ -20,7 +20,7 @@ pub fn signatures(n: usize, book: &[u8], duals: usize) -> [u16; DUALS]
 {
     let inside = word_alike::inside(n);
     let most = ROWS >> sizes::shift(n);
-    let mut rows = rows_room();
+    let mut rows = [0u8; ROWS];
     let mut out = [0u16; DUALS];
     let mut l = 0;
     while l < duals {
@@ -30,13 +30,6 @@ pub fn signatures(n: usize, book: &[u8], duals: usize) -> [u16; DUALS]
         l += k;
     }
     out
-}
-
-// Room for the rows.
-fn rows_room() -> [u8; ROWS]
-    ensures { 1024 ≡ length result }
-{
-    [0; ROWS]
 }
 
 // Lays k dual words out, from dual word l on, each twice over in a row of its own.

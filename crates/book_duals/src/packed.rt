@@ -13,7 +13,7 @@ ghost use Rattle.spec_book.specs.Layout.{width, dual_at};
 ghost use Rattle.book_duals.specs.Duals.{dual_product, product_ok, Zeros, Tested};
 ghost use Rattle.book_duals.specs.Lanes.{lanes, low_digits, other_digits, double_all, packed_at};
 
-use sizes::{BLOCK, SPAN};
+use sizes::{BLOCK, FEW_TABLE, SPAN, TABLE};
 
 // Whether all products are zero. Rooms are small where words are short: to clear more costs time.
 pub fn products_vanish(p: u8, n: usize, book: &[u8], duals: usize) -> bool
@@ -21,14 +21,25 @@ pub fn products_vanish(p: u8, n: usize, book: &[u8], duals: usize) -> bool
     ensures { result ≡ all duals (product_ok p n book.now) }
 {
     if n < BLOCK {
-        let mut t = word_table::few_table_room();
-        let mut product = [0u8; BLOCK];
-        let mut left = [0u8; BLOCK];
-        return vanish_in(p, n, book, duals, &mut t, &mut product, &mut left);
+        vanish_with::<FEW_TABLE, BLOCK>(p, n, book, duals)
+    } else {
+        vanish_with::<TABLE, SPAN>(p, n, book, duals)
     }
-    let mut t = word_table::table_room();
-    let mut product = [0u8; SPAN];
-    let mut left = [0u8; SPAN];
+}
+
+// The same with room for a table and for words of so many places.
+fn vanish_with<const TABLE: usize, const PLACES: usize>(
+    p: u8,
+    n: usize,
+    book: &[u8],
+    duals: usize,
+) -> bool
+    requires { Tested book.now p n duals × (p ≤ 3) × (stride n * 2 ^ p ≤ TABLE) × (span n ≤ PLACES) }
+    ensures { result ≡ all duals (product_ok p n book.now) }
+{
+    let mut t = [0u8; TABLE];
+    let mut product = [0u8; PLACES];
+    let mut left = [0u8; PLACES];
     vanish_in(p, n, book, duals, &mut t, &mut product, &mut left)
 }
 

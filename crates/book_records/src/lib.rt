@@ -6,27 +6,29 @@ ghost use Rattle.spec_range.specs.Fold.{all};
 ghost use Rattle.spec_range.specs.Table.{table};
 ghost use Rattle.spec_book.specs.Layout.{width, dual_at, duals_in, byte, Whole};
 ghost use Rattle.spec_book.specs.Conditions.{length_fits, length_ok, kinds_ok, sizes_ok, body_ok, symbols_ok};
+ghost use Rattle.refusal.specs.Number.{refusal_of};
 ghost use Rattle.book_records.specs.Records.{records_refusal, bound, Bounds, below, Body};
 
+use refusal::Refusal;
 use sizes::{BLOCK, DUALS, GENERATOR_AT, SPAN};
 
-// The first number from 1 to 4 that applies to a book, or 0.
-pub fn refusal(book: &[u8]) -> u8
-    ensures { result ≡ records_refusal book.now }
+// The first refusal from 1 to 4 that applies to a book.
+pub fn refusal(book: &[u8]) -> Result<(), Refusal>
+    ensures { refusal_of result ≡ records_refusal book.now }
 {
     if !length_ok(book) {
-        return 1;
+        return Err(Refusal::BookLength);
     }
     if !kinds_ok(book) {
-        return 2;
+        return Err(Refusal::Kinds);
     }
     if !sizes_ok(book) {
-        return 3;
+        return Err(Refusal::Sizes);
     }
     if !symbols_ok(book) {
-        return 4;
+        return Err(Refusal::Bodies);
     }
-    0
+    Ok(())
 }
 
 // 1: the length is one of the form that the generator's kind chooses; of either form where it chooses none.

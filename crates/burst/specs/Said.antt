@@ -1,9 +1,10 @@
--- The struct that a burst answers, its records as bytes, and what it answers and leaves for all inputs.
+-- What a burst answers by value, its records as bytes, and what it answers and leaves for all inputs.
 -- Assumes nothing.
-use Rattle.std.specs.Prelude.{◌≡◌, List, [], ◌∷◌, ◌++◌, ℕ, zero, suc, ◌≤◌, get_or, take}
-use Rattle.spec_field.specs.Answer.{Answer, answer}
-use Rattle.spec_decoding.specs.Decode.{Result}
+use Rattle.std.specs.Prelude.{◌≡◌, List, [], ◌∷◌, ◌++◌, ℕ, zero, suc, ◌≤◌, get_or, take, Result, Ok, Err}
+use Rattle.spec_decoding.specs.Decode as D
 use Rattle.spec_operations.specs.Burst.{Bursts}
+use Rattle.refusal.specs.declared.Refusal.{Refusal}
+use Rattle.refusal.specs.Number.{said}
 use Rattle.burst.specs.declared.Record.{Record}
 use Rattle.burst.specs.declared.Burst.{Burst}
 
@@ -16,13 +17,15 @@ abbrev pub list_bytes : List Record → List ℕ
 list_bytes [] = []
 list_bytes (x ∷ xs) = record_bytes x ++ list_bytes xs
 
--- the number that is answered; there are no values
-abbrev pub said : Burst → Answer
-said r = answer r.number []
+-- how many records were made: none by a burst that is refused
+abbrev pub count_of : Result Burst Refusal → ℕ
+count_of (Ok made) = made.count
+count_of (Err why) = 0
 
 -- the records that were made
-abbrev pub made_bytes : Burst → List ℕ
-made_bytes r = list_bytes (take r.count r.records)
+abbrev pub made_bytes : Result Burst Refusal → List ℕ
+made_bytes (Ok made) = list_bytes (take made.count made.records)
+made_bytes (Err why) = []
 
 -- how many records a burst with this refusal number makes: one a word, or none
 abbrev pub counted : ℕ → ℕ → ℕ
@@ -41,8 +44,13 @@ record_at records m = get_or records m blank
 pub record Blank (m : ℕ) (records : List Record) : Type 0 where
   pub blank_at : (k : ℕ) → m ≤ k → record_at records k ≡ blank
 
+-- past the records that were made there are none
+abbrev pub BlankAfter : Result Burst Refusal → Type 0
+BlankAfter (Ok made) = Blank made.count made.records
+BlankAfter (Err why) = Unit {0}
+
 -- a burst with first refusal number `number`, and the results of its words where that is 0: what it answers by value, r, and the two buffers in the end
-pub record Answered (number words : ℕ) (word : ℕ → Result) (answers₀ entries₀ : List ℕ) (r : Burst) (answers entries : List ℕ) : Type 0 where
+pub record Answered (number words : ℕ) (word : ℕ → D.Result) (answers₀ entries₀ : List ℕ) (r : Result Burst Refusal) (answers entries : List ℕ) : Type 0 where
   pub bursts : Bursts number words word answers₀ [] entries₀ (said r) answers (made_bytes r) entries
-  pub count_is : r.count ≡ counted number words
-  pub rest_is : Blank r.count r.records
+  pub count_is : count_of r ≡ counted number words
+  pub rest_is : BlankAfter r

@@ -1,11 +1,12 @@
 -- What decoding the words of a burst is given and leaves.
 -- Assumes nothing.
-use Rattle.std.specs.Prelude.{◌≡◌, List, [], ◌∷◌, ℕ, ◌*◌, ◌^◌, ◌≤◌, ◌<◌, length, get_or, take}
-use Rattle.spec_field.specs.Answer.{Answer, done, refused}
+use Rattle.std.specs.Prelude.{◌≡◌, List, [], ◌∷◌, ℕ, ◌*◌, ◌^◌, ◌≤◌, ◌<◌, length, take}
 use Rattle.spec_decoding.specs.Decode.{Result}
 use Rattle.spec_operations.specs.Burst.{record_of, answers_of, records_of, last_entries}
 use Rattle.word_array.specs.Stored.{place}
 use Rattle.book.specs.declared.Params.{Params}
+use Rattle.decode_rounds.specs.Kind.{letter_of}
+use Rattle.decode.specs.declared.Decoded.{Decoded}
 use Rattle.burst.specs.Said.{record_bytes, list_bytes, Blank}
 use Rattle.burst.specs.declared.Record.{Record}
 
@@ -16,10 +17,9 @@ pub record Received (c : Params) (words : ℕ) (received : List ℕ) : Type 0 wh
   pub size : length received ≡ c.n * words
   pub symbol : (k : ℕ) → k < length received → place received k < 2 ^ c.p
 
--- the record of what decode answers, whose values are changed, rounds and the letter
-abbrev pub record_in : Answer → List ℕ
-record_in (done values) = get_or values 2 0 ∷ get_or values 1 0 ∷ get_or values 0 0 ∷ []
-record_in (refused number) = 0 ∷ 0 ∷ number ∷ []
+-- the record of what decode tells
+abbrev pub Told : Decoded → Record → Type 0
+Told r x = record_bytes x ≡ letter_of r.kind ∷ r.rounds ∷ r.changed ∷ []
 
 -- a word was decoded with the result x
 pub record DecodedWord (x : Result) (r : Record) (answer entries : List ℕ) : Type 0 where

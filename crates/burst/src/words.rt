@@ -5,9 +5,8 @@ ghost use Rattle.spec_operations.specs.Burst.{burst_word};
 ghost use Rattle.word_array.specs.Stored.{place};
 ghost use Rattle.book.specs.Params.{Tabulated, Describes};
 ghost use Rattle.decode_rounds.specs.Rounds.{TermsRoom};
-ghost use Rattle.decode.specs.Decoded as decoded;
-ghost use Rattle.burst.specs.Said.{record_bytes, blank};
-ghost use Rattle.burst.specs.Words.{Received, record_in, DecodedWord, DecodedWords};
+ghost use Rattle.burst.specs.Said.{blank};
+ghost use Rattle.burst.specs.Words.{Received, Told, DecodedWord, DecodedWords};
 
 use crate::Record;
 use book::Params;
@@ -26,25 +25,20 @@ fn unmix(received: &[u8], words: usize, m: usize, n: usize) -> Word
     w
 }
 
-// What is told of a word that was decoded. (No word of a burst that is taken is refused.)
-fn record_of(r: Decoded) -> Record
-    ensures { record_bytes result ≡ record_in (decoded.said r) }
-{
-    match r {
-        Decoded::Answered(kind, rounds, changed) => Record {
-            kind: decode::letter(kind),
-            rounds,
-            changed,
-        },
-        Decoded::Refused(number) => Record {
-            kind: 0,
-            rounds: 0,
-            changed: number,
-        },
+// What is told of a word that was decoded.
+impl From<Decoded> for Record {
+    ghost from_gives = { Told };
+
+    fn from(told: Decoded) -> Record {
+        Record {
+            kind: u8::from(told.kind),
+            rounds: told.rounds,
+            changed: told.changed,
+        }
     }
 }
 
-// Decodes word m of a burst that is not refused.
+// Decodes word m of a burst that is not refused, and so the word is not.
 fn decode_one(
     book: &[u8],
     c: Params,
@@ -63,7 +57,8 @@ fn decode_one(
 {
     let n = c.n;
     let w = unmix(received, words, m, n);
-    record_of(decode::decode_word(book, c, t, terms, &w[..n], answer, entries))
+    let told = decode::decode_word(book, c, t, terms, &w[..n], answer, entries).unwrap();
+    Record::from(told)
 }
 
 // No records.

@@ -3,7 +3,7 @@ ghost use Rattle.std.specs.Prelude.{length};
 ghost use Rattle.spec_operations.specs.Wrote.{Wrote};
 ghost use Rattle.spec_operations.specs.Coding.{code_refusal, coded};
 ghost use Rattle.spec_operations.specs.Short.{GivenWrittenOut, SameWord};
-ghost use Rattle.refusals.specs.Said.{said};
+ghost use Rattle.refusal.specs.Number.{said};
 
 use crate::trips::Both;
 

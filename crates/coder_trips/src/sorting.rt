@@ -3,7 +3,7 @@
 ghost use Rattle.std.specs.Prelude.{length};
 ghost use Rattle.spec_operations.specs.Wrote.{Wrote};
 ghost use Rattle.spec_operations.specs.Remainder.{remainder_refusal, remainder_of, GivenTwo, Sorted};
-ghost use Rattle.refusals.specs.Said.{said};
+ghost use Rattle.refusal.specs.Number.{said};
 
 use crate::trips::Both;
 

@@ -6,15 +6,15 @@ ghost use Rattle.spec_coding.specs.Coder.{written_out};
 ghost use Rattle.spec_operations.specs.Wrote.{Wrote};
 ghost use Rattle.spec_operations.specs.Coding.{code_refusal, coded, read_refusal, message_of};
 ghost use Rattle.spec_operations.specs.Trips.{GivenBack};
-ghost use Rattle.refusals.specs.Said.{said};
+ghost use Rattle.refusal.specs.Number.{said};
 
-use refusals::Done;
+use refusal::Refusal;
 
 // What the two calls answer.
 #[derive(Clone, Copy)]
 pub struct Both {
-    pub first: Done,
-    pub second: Done,
+    pub first: Result<(), Refusal>,
+    pub second: Result<(), Refusal>,
 }
 
 // Both calls answer and write what the definitions say, whatever is given; and a message that is accepted is read back, written out, from the word that

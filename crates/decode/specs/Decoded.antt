@@ -1,18 +1,13 @@
--- The enum that decode answers.
+-- What decode answers.
 -- Assumes nothing.
-use Rattle.std.specs.Prelude.{[], ◌∷◌, ℕ}
+use Rattle.std.specs.Prelude.{[], ◌∷◌, Result, Ok, Err}
 use Rattle.spec_field.specs.Answer.{Answer, done, refused}
-use Rattle.spec_decoding.specs.Decode.{letter}
-use Rattle.decode_rounds.specs.declared.Kind.{Kind}
-use Rattle.decode_rounds.specs.Kind.{kind_of}
+use Rattle.refusal.specs.declared.Refusal.{Refusal}
+use Rattle.refusal.specs.Number.{number_of}
+use Rattle.decode_rounds.specs.Kind.{letter_of}
 use Rattle.decode.specs.declared.Decoded.{Decoded}
-use Rattle.decode.specs.declared.Decoded.TheVariants.{Answered, Refused}
 
--- the letter of its kind
-abbrev pub letter_of : Kind → ℕ
-letter_of kind = letter (kind_of kind)
-
--- the number, or changed, rounds and the kind's letter
-abbrev pub said : Decoded → Answer
-said (Answered kind rounds changed) = done (changed ∷ rounds ∷ letter (kind_of kind) ∷ [])
-said (Refused number) = refused number
+-- changed, rounds and the kind's letter, or the number
+abbrev pub said : Result Decoded Refusal → Answer
+said (Ok r) = done (r.changed ∷ r.rounds ∷ letter_of r.kind ∷ [])
+said (Err why) = refused (number_of why)

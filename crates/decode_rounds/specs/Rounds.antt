@@ -13,7 +13,7 @@ use Rattle.sizes.specs.Blocks.{span, stride}
 use Rattle.word_array.specs.Stored.{place, Stored}
 use Rattle.book.specs.declared.Params.{Params}
 use Rattle.book.specs.Params.{Tabulated, Describes}
-use Rattle.book.specs.Opened.{OpenBook}
+use Rattle.book.specs.Opened.{table_room, OpenBook}
 use Rattle.matrix_terms.specs.Terms.{dual_of, TermsOf, Kept, terms_at, weight_in}
 use Rattle.decode_rounds.specs.Kind.{kind_of}
 use Rattle.decode_rounds.specs.declared.Step.{Step}
@@ -48,6 +48,11 @@ module _ (bytes : List ℕ) where
   pub record TermsRoom (c : Params) (terms : List ℕ) : Type 0 where
     pub long : terms_at + span c.n * 32 ≤ length terms
     pub kept : Kept (stride c.n) c.p c.n c.duals (dual_of bytes) terms
+
+  -- rooms of so many terms, and of so many places for the table of the generator, suffice
+  pub record RoomsFit (terms table : ℕ) : Type 0 where
+    pub terms_fit : refusal bytes ≡ 0 → terms_at + span B.n * 32 ≤ terms
+    pub table_fits : table_room bytes ≤ table
 
   -- a room in which nothing is listed yet, and which is large enough if the book is accepted
   pub record Unlisted (terms : List ℕ) : Type 0 where

@@ -10,13 +10,14 @@ ghost use Rattle.sizes.specs.Blocks.{stride};
 ghost use Rattle.book.specs.Params.{Describes};
 ghost use Rattle.book.specs.Opened.{OpenBook};
 ghost use Rattle.matrix_terms.specs.Terms.{dual_of, TermsOf};
+ghost use Rattle.decode_rounds.specs.Kind.{Letters};
 ghost use Rattle.decode_rounds.specs.Rounds.{step_of, listed, all_rounds, Prepared, TermsRoom, Countable, Begun, Ready, Received, Stepped, Ended};
 
 use book::Params;
-use sizes::Word;
+use sizes::{STRIDE, Word};
 
 // The kind of answer.
-#[derive(Clone, Copy)]
+#[derive(Clone, Copy, Debug, PartialEq, Eq)]
 pub enum Kind {
     Clean,
     Mended,
@@ -24,8 +25,22 @@ pub enum Kind {
     Spent,
 }
 
+// Its letter, as the program prints it.
+impl From<Kind> for u8 {
+    ghost from_gives = { Letters };
+
+    fn from(kind: Kind) -> u8 {
+        match kind {
+            Kind::Clean => b'C',
+            Kind::Mended => b'M',
+            Kind::Stalled => b'S',
+            Kind::Spent => b'X',
+        }
+    }
+}
+
 // What comes of a round.
-#[derive(Clone, Copy)]
+#[derive(Clone, Copy, Debug, PartialEq, Eq)]
 pub enum Step {
     Empty,
     Reached,
@@ -140,7 +155,7 @@ pub fn run(
         m.new × TermsRoom book.now c terms.new }
 {
     let r = word_array::load(received, 0, c.n);
-    let mut rest = word_divide::room();
+    let mut rest = [0u8; STRIDE];
     word_divide::remainder(c.p, c.n, c.degree, t, received, &mut rest);
     if word_array::is_zero(c.degree, &rest) {
         matrix::clear(m);

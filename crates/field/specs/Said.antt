@@ -1,11 +1,11 @@
--- The enum that the field operations answer.
+-- What the field operations answer.
 -- Assumes nothing.
-use Rattle.std.specs.Prelude.{[], ◌∷◌}
+use Rattle.std.specs.Prelude.{[], ◌∷◌, ℕ, Result, Ok, Err}
 use Rattle.spec_field.specs.Answer.{Answer, done, refused}
-use Rattle.field.specs.declared.Symbol.{Symbol}
-use Rattle.field.specs.declared.Symbol.TheVariants.{Value, Refused}
+use Rattle.refusal.specs.declared.Refusal.{Refusal}
+use Rattle.refusal.specs.Number.{number_of}
 
--- the number and the symbol that each case of the enum stands for
-abbrev pub said : Symbol → Answer
-said (Value a) = done (a ∷ [])
-said (Refused number) = refused number
+-- the symbol, or the number
+abbrev pub said : Result ℕ Refusal → Answer
+said (Ok a) = done (a ∷ [])
+said (Err why) = refused (number_of why)

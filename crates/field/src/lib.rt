@@ -3,18 +3,14 @@
 
 ghost use Rattle.std.specs.Prelude.{◌≡◌, ◌*◌, ◌%◌, ◌^◌, ◌<◌, ◌≤◌};
 ghost use Rattle.spec_field.specs.Symbols.{polynomial, times_x, product, inverse};
+ghost use Rattle.refusal.specs.Number.{refusal_of};
 ghost use Rattle.field.specs.Said.{said};
 ghost use Rattle.spec_field.specs.Operations.{field_refusal, inverse_refusal, sum_answer, product_answer, inverse_answer};
 
+use refusal::Refusal;
+
 // The polynomials 1, 3, 7, 11, 19, 37 and 91 for p from 0 to 6, a byte each, lowest first. (An array would be laid out anew at each use.)
 const POLYNOMIALS: u64 = 0x5b_25_13_0b_07_03_01;
-
-// A symbol, or the number of the refusal.
-#[derive(Clone, Copy)]
-pub enum Symbol {
-    Value(u8),
-    Refused(u8),
-}
 
 // `a` where the lowest digit of `b` is 1, and 0 where it is 0, by a mask.
 fn masked(b: u8, a: u8) -> u8
@@ -87,65 +83,53 @@ pub fn inv(p: u8, a: u8) -> u8
     total
 }
 
-// The first refusal that applies to p, `a` and `b`, or 0.
+// The first refusal that applies to p, `a` and `b`.
 #[tactic(auto, unfolding(spec_field::specs::Operations::field_refusal))]
-fn refusal(p: u8, a: u8, b: u8) -> u8
-    ensures { result ≡ field_refusal p a b }
+fn refusal(p: u8, a: u8, b: u8) -> Result<(), Refusal>
+    ensures { refusal_of result ≡ field_refusal p a b }
 {
     if p == 0 {
-        return 3;
+        return Err(Refusal::Sizes);
     }
     if 6 < p {
-        return 3;
+        return Err(Refusal::Sizes);
     }
     let q = order(p);
     if q <= a {
-        return 11;
+        return Err(Refusal::InputSymbol);
     }
     if q <= b {
-        return 11;
+        return Err(Refusal::InputSymbol);
     }
-    0
+    Ok(())
 }
 
-// The first refusal that applies to the inverse of `a`, or 0.
-fn inverse_refusal(p: u8, a: u8) -> u8
-    ensures { result ≡ inverse_refusal p a }
+// The first refusal that applies to the inverse of `a`.
+fn inverse_refusal(p: u8, a: u8) -> Result<(), Refusal>
+    ensures { refusal_of result ≡ inverse_refusal p a }
 {
-    let n = refusal(p, a, a);
-    if n != 0 {
-        return n;
-    }
-    if a == 0 { 13 } else { 0 }
+    refusal(p, a, a)?;
+    if a == 0 { Err(Refusal::ZeroInverse) } else { Ok(()) }
 }
 
 // The three field operations, for all inputs.
-pub fn sum(p: u8, a: u8, b: u8) -> Symbol
+pub fn sum(p: u8, a: u8, b: u8) -> Result<u8, Refusal>
     ensures { said result ≡ sum_answer p a b }
 {
-    let n = refusal(p, a, b);
-    if n != 0 {
-        return Symbol::Refused(n);
-    }
-    Symbol::Value(a ^ b)
+    refusal(p, a, b)?;
+    Ok(a ^ b)
 }
 
-pub fn product(p: u8, a: u8, b: u8) -> Symbol
+pub fn product(p: u8, a: u8, b: u8) -> Result<u8, Refusal>
     ensures { said result ≡ product_answer p a b }
 {
-    let n = refusal(p, a, b);
-    if n != 0 {
-        return Symbol::Refused(n);
-    }
-    Symbol::Value(mul(p, a, b))
+    refusal(p, a, b)?;
+    Ok(mul(p, a, b))
 }
 
-pub fn inverse(p: u8, a: u8) -> Symbol
+pub fn inverse(p: u8, a: u8) -> Result<u8, Refusal>
     ensures { said result ≡ inverse_answer p a }
 {
-    let n = inverse_refusal(p, a);
-    if n != 0 {
-        return Symbol::Refused(n);
-    }
-    Symbol::Value(inv(p, a))
+    inverse_refusal(p, a)?;
+    Ok(inv(p, a))
 }

@@ -6,15 +6,15 @@ ghost use Rattle.spec_field.specs.Operations.{sum_answer, product_answer, invers
 ghost use Rattle.spec_operations.specs.Packed.{result_of};
 ghost use Rattle.field.specs.Said.{said};
 
-use field::Symbol;
+use refusal::Refusal;
 
 // The refusal number in the lowest byte, or the symbol in byte 1.
-fn pack_symbol(r: Symbol) -> u32
+fn pack_symbol(r: Result<u8, Refusal>) -> u32
     ensures { result ≡ result_of (said r) }
 {
     match r {
-        Symbol::Value(symbol) => 256 * (symbol as u32),
-        Symbol::Refused(number) => number as u32,
+        Ok(symbol) => 256 * u32::from(symbol),
+        Err(why) => u32::from(u8::from(why)),
     }
 }
 

@@ -1,5 +1,5 @@
 // Which words of a burst are held.
-ghost use Rattle.std.specs.Prelude.{◌≡◌, ◌≤◌};
+ghost use Rattle.std.specs.Prelude.{◌≡◌, ◌≤◌, Ok};
 ghost use Rattle.spec_operations.specs.GameTrips.{held_letter, held_records};
 ghost use Rattle.burst.specs.Said.{made_bytes};
 
@@ -15,7 +15,7 @@ fn is_held(kind: u8) -> bool
 // How many of a burst's words are held.
 pub fn held(made: Burst) -> u8
     requires { made.count ≤ 16 }
-    ensures { result ≡ held_records made.count (made_bytes made) }
+    ensures { result ≡ held_records made.count (made_bytes (Ok made)) }
 {
     let mut held: u8 = 0;
     for m in 0..made.count {

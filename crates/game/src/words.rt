@@ -1,15 +1,16 @@
 // A game once the book is open: its words are decoded, and where none is held their messages are read.
 ghost use Rattle.std.specs.Prelude.{◌≡◌, List, ℕ, ◌-◌, ◌*◌, ◌^◌, ◌≤◌, length};
-ghost use Rattle.spec_operations.specs.Game.{game_input_refusal, game_refusal, Games};
+ghost use Rattle.spec_operations.specs.Game.{game_input_refusal, Games};
 ghost use Rattle.book.specs.Params.{Tabulated, Describes};
-ghost use Rattle.book.specs.Opened.{Opens, OpenBook, SomeBook};
-ghost use Rattle.decode_rounds.specs.Rounds.{TermsRoom, Unlisted};
+ghost use Rattle.book.specs.Opened.{OpenBook, SomeBook};
+ghost use Rattle.decode_rounds.specs.Rounds.{TermsRoom};
 ghost use Rattle.game.specs.Said.{said};
 ghost use Rattle.game.specs.Rooms.{MatrixRoom, AnswersRoom};
 ghost use Rattle.game.specs.Words.{Readable, messages_in};
 
 use crate::{Game, taking};
-use book::{Opened, Params};
+use book::Params;
+use refusal::Refusal;
 
 // Reads the messages of answer words that stand one after another.
 fn read_all(c: Params, t: &[u8], words: usize, answers: &[u8], messages: &mut [u8])
@@ -37,23 +38,23 @@ fn take_words(
     words: u32,
     received: &[u8],
     messages: &mut [u8],
-) -> Game
+) -> Result<Game, Refusal>
     requires { Describes book.now c × Tabulated book.now c.p c.n t.now × TermsRoom book.now c terms.old
         × (length answers.old ≡ c.n * words) × (length entries.old ≡ 2 ^ c.p * c.n) × (game_input_refusal book.now words received.now (length messages.old) ≡ 0) }
     ensures { Games book.now 0 words received.now messages.old (said result) messages.new }
 {
     let count = words as usize;
-    let made = burst::burst_words(book, c, t, terms, words, received, answers, count, entries);
+    let made = burst::burst_words(book, c, t, terms, words, received, answers, count, entries)?;
     let held = taking::held(made);
     if held != 0 {
-        return Game::Held(held);
+        return Ok(Game::Held(held));
     }
     read_all(c, t, count, answers, messages);
-    Game::Whole
+    Ok(Game::Whole)
 }
 
 // The same for all inputs: t is the table of the book's generator.
-fn game_words(
+pub fn game_words(
     book: &[u8],
     c: Params,
     t: &[u8],
@@ -63,7 +64,7 @@ fn game_words(
     words: u32,
     received: &[u8],
     messages: &mut [u8],
-) -> Game
+) -> Result<Game, Refusal>
     requires { Describes book.now c × Tabulated book.now c.p c.n t.now × TermsRoom book.now c terms.old × AnswersRoom book.now answers.old
         × MatrixRoom book.now entries.old }
     ensures { Games book.now (game_input_refusal book.now words received.now (length messages.old)) words
@@ -73,10 +74,7 @@ fn game_words(
     let n = c.n;
     let k = n - c.degree;
     let q = field::order(p);
-    let number = refusals::words_refusal(q, words, received, n, messages.len(), k);
-    if number != 0 {
-        return Game::Refused(number);
-    }
+    refusals::words_refusal(q, words, received, n, messages.len(), k)?;
     let size = n * (words as usize);
     let matrix = decode::matrix_size(p, n);
     take_words(
@@ -90,28 +88,4 @@ fn game_words(
         received,
         messages,
     )
-}
-
-// The same once it is known whether the book is open.
-pub fn game_opened(
-    book: &[u8],
-    opened: Opened,
-    t: &[u8],
-    terms: &mut [u16],
-    answers: &mut [u8],
-    entries: &mut [u16],
-    words: u32,
-    received: &[u8],
-    messages: &mut [u8],
-) -> Game
-    requires { Opens book.now opened t.now × Unlisted book.now terms.old × AnswersRoom book.now answers.old × MatrixRoom book.now entries.old }
-    ensures { Games book.now (game_refusal book.now words received.now (length messages.old)) words
-        received.now messages.old (said result) messages.new }
-{
-    match opened {
-        Opened::Refused(number) => Game::Refused(number),
-        Opened::Open(c) => game_words(
-            book, c, t, terms, answers, entries, words, received, messages,
-        ),
-    }
 }

@@ -6,21 +6,21 @@ ghost use Rattle.spec_operations.specs.Wrote.{Wrote};
 ghost use Rattle.spec_operations.specs.Burst.{burst_refusal, burst_word};
 ghost use Rattle.spec_operations.specs.Game.{game_size, game_refusal, Games};
 ghost use Rattle.spec_operations.specs.GameTrips.{send_refusal, sent, BackWhole, GameOfBurst};
-ghost use Rattle.refusals.specs.Said.{said};
+ghost use Rattle.refusal.specs.Number.{said};
 ghost use Rattle.burst.specs.Said.{made_bytes, Answered};
 ghost use Rattle.game.specs.Said as games;
 
 use burst::Burst;
 use game::Game;
-use refusals::Done;
+use refusal::Refusal;
 
 pub mod sending; // sending.rt: messages coded into a burst
 
 // What sending and the game answer.
 #[derive(Clone, Copy)]
 pub struct Both {
-    pub first: Done,
-    pub second: Game,
+    pub first: Result<(), Refusal>,
+    pub second: Result<Game, Refusal>,
 }
 
 // Both calls answer and write what the definitions say, whatever is given; and messages that are accepted come back from the burst that they were coded into,
@@ -48,8 +48,8 @@ pub fn send_then_game(
 // What a burst and the game of the same words answer.
 #[derive(Clone, Copy)]
 pub struct Beside {
-    pub first: Burst,
-    pub second: Game,
+    pub first: Result<Burst, Refusal>,
+    pub second: Result<Game, Refusal>,
 }
 
 // Both calls answer and write what the definitions say, whatever is given; and of a burst that is taken, the game is Held exactly where one of the burst's

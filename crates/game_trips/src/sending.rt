@@ -2,13 +2,13 @@
 ghost use Rattle.std.specs.Prelude.{◌≡◌, ◌*◌, ◌≤◌, ◌<◌, length};
 ghost use Rattle.spec_operations.specs.Wrote.{Wrote};
 ghost use Rattle.spec_operations.specs.GameTrips.{send_input_refusal, send_refusal, sent};
-ghost use Rattle.refusals.specs.Said.{said};
+ghost use Rattle.refusal.specs.Number.{said};
 ghost use Rattle.book.specs.Params.{Describes};
 ghost use Rattle.game_trips.specs.Mixing.{Put};
 
-use book::{Opened, Params};
-use refusals::Done;
-use sizes::{WIDTH, Word};
+use book::Params;
+use refusal::Refusal;
+use sizes::{TABLE, WIDTH};
 
 // Puts word m in its places of a burst.
 fn mix(word: &[u8], n: usize, words: usize, m: usize, out: &mut [u8])
@@ -34,45 +34,32 @@ fn code_all(book: &[u8], c: Params, words: usize, messages: &[u8], word: &mut [u
     }
 }
 
-// Room for any word. (A function gives it, so that proofs can name it.)
-fn room() -> Word
-    ensures { 255 ≡ length result }
-{
-    [0; WIDTH]
-}
-
 // The same once the book is open, for all inputs.
-fn send_words(book: &[u8], c: Params, words: u32, messages: &[u8], out: &mut [u8]) -> Done
+fn send_words(book: &[u8], c: Params, words: u32, messages: &[u8], out: &mut [u8]) -> Result<(), Refusal>
     requires { Describes book.now c }
     ensures { Wrote (send_input_refusal book.now words messages.now (length out.old))
         (sent book.now words messages.now) out.old (said result) out.new }
 {
     let n = c.n;
-    let number = refusals::words_refusal(
+    refusals::words_refusal(
         field::order(c.p),
         words,
         messages,
         n - c.degree,
         out.len(),
         n,
-    );
-    if number != 0 {
-        return Done::Refused(number);
-    }
-    let mut word = room();
+    )?;
+    let mut word = [0u8; WIDTH];
     code_all(book, c, words as usize, messages, &mut word[..n], out);
-    Done::Made
+    Ok(())
 }
 
 // Codes the messages of a game and mixes their words.
-pub fn send(book: &[u8], words: u32, messages: &[u8], out: &mut [u8]) -> Done
+pub fn send(book: &[u8], words: u32, messages: &[u8], out: &mut [u8]) -> Result<(), Refusal>
     ensures { Wrote (send_refusal book.now words messages.now (length out.old))
         (sent book.now words messages.now) out.old (said result) out.new }
 {
-    let mut t = word_table::table_room();
-    let opened = book::open(book, &mut t);
-    match opened {
-        Opened::Refused(number) => Done::Refused(number),
-        Opened::Open(c) => send_words(book, c, words, messages, out),
-    }
+    let mut t = [0u8; TABLE];
+    let c = book::open(book, &mut t)?;
+    send_words(book, c, words, messages, out)
 }

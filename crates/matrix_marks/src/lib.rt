@@ -2,7 +2,7 @@
 // that power. Dividing by a symbol is an offset of rows, and turning is an offset of places, so that the counters are sums of marks.
 #![tactic(auto)]
 
-ghost use Rattle.std.specs.Prelude.{◌≡◌, ℕ, ◌+◌, ◌*◌, ◌^◌, ◌≤◌, ◌<◌, eqb, length, replicate};
+ghost use Rattle.std.specs.Prelude.{◌≡◌, ℕ, ◌+◌, ◌*◌, ◌^◌, ◌≤◌, ◌<◌, eqb, length};
 ghost use Rattle.spec_range.specs.Fold.{indicator};
 ghost use Rattle.spec_range.specs.Table.{table};
 ghost use Rattle.spec_word.specs.Word.{at};
@@ -13,7 +13,7 @@ ghost use Rattle.word_table.specs.Window.{Window};
 ghost use Rattle.matrix_terms.specs.Count.{counted};
 ghost use Rattle.matrix_terms.specs.Terms.{TermsOf, Filling};
 ghost use Rattle.matrix_marks.specs.Marks.{powers_in, Markable, Marked, Addable, marks_of, Summable, terms_from, term_counts, Turned, Counted, Tallied};
-ghost use Rattle.matrix_marks.specs.Marks.{Countable, Gatherable, Gathered, Rooms};
+ghost use Rattle.matrix_marks.specs.Marks.{Countable, Gatherable, Gathered, Rooms, RoomsFit};
 
 use field_powers::POWERS_AT;
 use matrix_terms::{TERMS_AT, WEIGHT_AT};
@@ -174,13 +174,6 @@ fn gather(p: u8, n: usize, blocks: usize, terms: &[u16], counts: &[u16], m: &mut
     }
 }
 
-// Room for the product of a dual word and the received word.
-fn product_room() -> [u8; SPAN]
-    ensures { 256 ≡ length result }
-{
-    [0; SPAN]
-}
-
 // Counts the dual words. t is the table of the received word's multiples, and v room for marks.
 fn count_duals(
     p: u8,
@@ -196,7 +189,7 @@ fn count_duals(
 {
     let weight = terms[WEIGHT_AT] as usize;
     let blocks = sizes::blocks(n);
-    let mut w = product_room();
+    let mut w = [0u8; SPAN];
     for l in 0..duals {
         matrix_terms::product(l, p, n, duals, terms, t, &mut w);
         count_dual(
@@ -211,13 +204,6 @@ fn count_duals(
             counts,
         );
     }
-}
-
-// Room for the table of a word's multiples, short or long.
-fn multiples_room() -> [u8; MULTIPLES]
-    ensures { 2048 ≡ length result }
-{
-    [0; MULTIPLES]
 }
 
 // Fills the matrix in lent rooms for the marks and the counters, which are zero. The table has its room here, where it takes no stack of the other way to
@@ -236,57 +222,27 @@ fn fill_in(
         × Rooms (stride n) (span n) p v.old counts.old }
     ensures { (b : ℕ → ℕ → ℕ) → TermsOf (stride n) p n duals b terms.now → m.new ≡ counted p n b duals (at n r.now) }
 {
-    let mut t = multiples_room();
+    let mut t = [0u8; MULTIPLES];
     word_table::tabulate(p, n, r, 0, &mut t);
     count_duals(p, n, duals, terms, &t, v, counts);
     gather(p, n, sizes::blocks(n), terms, counts, m);
     matrix_terms::row_zero(p, n, (duals as u16) * terms[WEIGHT_AT], m);
 }
 
-// Room for the marks of a dual word.
-fn mark_room() -> [u8; MARKS]
-    ensures { 1792 ≡ length result }
-{
-    [0; MARKS]
-}
-
-// Counters, all zero.
-fn counters() -> [u16; COUNTERS]
-    ensures { result ≡ replicate 512 0 }
-{
-    [0; COUNTERS]
-}
-
-// The same for longer words.
-fn long_mark_room() -> [u8; LONG_MARKS]
-    ensures { 3072 ≡ length result }
-{
-    [0; LONG_MARKS]
-}
-
-fn long_counters() -> [u16; LONG_COUNTERS]
-    ensures { result ≡ replicate 1024 0 }
-{
-    [0; LONG_COUNTERS]
-}
-
-// Fills the matrix of a word of a single block: to clear more room costs time.
-fn fill_short(p: u8, n: usize, duals: usize, terms: &[u16], r: &[u8], m: &mut [u16])
-    requires { Filling (stride n) p n duals terms.now r.now m.old × (p ≤ 3) × (n < 64) }
+// Fills the matrix with room for so many marks and counters: to clear more room costs time.
+fn fill_with<const MARKS: usize, const COUNTERS: usize>(
+    p: u8,
+    n: usize,
+    duals: usize,
+    terms: &[u16],
+    r: &[u8],
+    m: &mut [u16],
+)
+    requires { Filling (stride n) p n duals terms.now r.now m.old × (stride n * 2 ^ p ≤ 2048) × RoomsFit (stride n) (span n) p MARKS COUNTERS }
     ensures { (b : ℕ → ℕ → ℕ) → TermsOf (stride n) p n duals b terms.now → m.new ≡ counted p n b duals (at n r.now) }
 {
-    let mut v = mark_room();
-    let mut counts = counters();
-    fill_in(p, n, duals, terms, r, &mut v, &mut counts, m);
-}
-
-// The same of a longer word.
-fn fill_long(p: u8, n: usize, duals: usize, terms: &[u16], r: &[u8], m: &mut [u16])
-    requires { Filling (stride n) p n duals terms.now r.now m.old × (p ≤ 2) }
-    ensures { (b : ℕ → ℕ → ℕ) → TermsOf (stride n) p n duals b terms.now → m.new ≡ counted p n b duals (at n r.now) }
-{
-    let mut v = long_mark_room();
-    let mut counts = long_counters();
+    let mut v = [0u8; MARKS];
+    let mut counts = [0u16; COUNTERS];
     fill_in(p, n, duals, terms, r, &mut v, &mut counts, m);
 }
 
@@ -296,8 +252,8 @@ pub fn fill(p: u8, n: usize, duals: usize, terms: &[u16], r: &[u8], m: &mut [u16
     ensures { (b : ℕ → ℕ → ℕ) → TermsOf (stride n) p n duals b terms.now → m.new ≡ counted p n b duals (at n r.now) }
 {
     if n < BLOCK {
-        fill_short(p, n, duals, terms, r, m);
+        fill_with::<MARKS, COUNTERS>(p, n, duals, terms, r, m);
     } else {
-        fill_long(p, n, duals, terms, r, m);
+        fill_with::<LONG_MARKS, LONG_COUNTERS>(p, n, duals, terms, r, m);
     }
 }

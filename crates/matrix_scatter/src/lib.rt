@@ -13,26 +13,12 @@ ghost use Rattle.matrix_scatter.specs.Scatter.{Countable, terms_add, RowGathered
 ghost use Rattle.matrix_scatter.specs.Fill.{Cleared, Scattering, Scattered};
 
 use matrix_terms::{TERMS_AT, WEIGHT_AT};
-use sizes::{BLOCK, EIGHT, SPAN, STRIDE, SYMBOLS};
+use sizes::{BLOCK, EIGHT, SPAN, STRIDE, SYMBOLS, TABLE};
 
 // The counters that a room has where they are few.
 const FEW_COUNTERS: usize = 3072;
 // And where they are many.
 const COUNTERS: usize = 12288;
-
-// Counters, where they are few.
-fn small_room() -> [u16; FEW_COUNTERS]
-    ensures { (3072 ≡ length result) × ((k : ℕ) → place result k ≡ 0) }
-{
-    [0; FEW_COUNTERS]
-}
-
-// Counters, where they are many.
-fn large_room() -> [u16; COUNTERS]
-    ensures { (12288 ≡ length result) × ((k : ℕ) → place result k ≡ 0) }
-{
-    [0; COUNTERS]
-}
 
 // Where the counters of each symbol's row start.
 fn row_starts(p: u8, n: usize, terms: &[u16]) -> [u16; SYMBOLS]
@@ -153,7 +139,7 @@ fn count_duals(p: u8, n: usize, duals: usize, terms: &[u16], r: &[u8], counts: &
     ensures { Scattered (stride n) p n duals terms.now r.now counts.new }
 {
     let starts = row_starts(p, n, terms);
-    let mut t = word_table::table_room();
+    let mut t = [0u8; TABLE];
     word_table::tabulate(p, n, r, 0, &mut t);
     let mut w = [0u8; SPAN];
     let mut cells = [0u16; STRIDE];
@@ -182,21 +168,19 @@ fn fill_by(
     matrix_terms::row_zero(p, n, (duals as u16) * terms[WEIGHT_AT], m);
 }
 
-// Fills the matrix where counters are few.
-fn fill_few(p: u8, n: usize, duals: usize, terms: &[u16], r: &[u8], m: &mut [u16])
-    requires { Filling (stride n) p n duals terms.now r.now m.old × ((n + 1) % 8 ≡ 0) × ((3 * (2 ^ p - 1) + 1) * (n + 1) ≤ 3072) }
+// Fills the matrix with so many counters: to clear more costs time.
+fn fill_with<const COUNTERS: usize>(
+    p: u8,
+    n: usize,
+    duals: usize,
+    terms: &[u16],
+    r: &[u8],
+    m: &mut [u16],
+)
+    requires { Filling (stride n) p n duals terms.now r.now m.old × ((n + 1) % 8 ≡ 0) × ((3 * (2 ^ p - 1) + 1) * (n + 1) ≤ COUNTERS) }
     ensures { (b : ℕ → ℕ → ℕ) → TermsOf (stride n) p n duals b terms.now → m.new ≡ counted p n b duals (at n r.now) }
 {
-    let mut counts = small_room();
-    fill_by(p, n, duals, terms, r, &mut counts, m);
-}
-
-// Fills the matrix where counters are many.
-fn fill_many(p: u8, n: usize, duals: usize, terms: &[u16], r: &[u8], m: &mut [u16])
-    requires { Filling (stride n) p n duals terms.now r.now m.old × ((n + 1) % 8 ≡ 0) }
-    ensures { (b : ℕ → ℕ → ℕ) → TermsOf (stride n) p n duals b terms.now → m.new ≡ counted p n b duals (at n r.now) }
-{
-    let mut counts = large_room();
+    let mut counts = [0u16; COUNTERS];
     fill_by(p, n, duals, terms, r, &mut counts, m);
 }
 
@@ -207,8 +191,8 @@ pub fn fill(p: u8, n: usize, duals: usize, terms: &[u16], r: &[u8], m: &mut [u16
 {
     let rows = 3 * (sizes::wide(field::order(p)) - 1) + 1;
     if rows * (n + 1) <= FEW_COUNTERS {
-        fill_few(p, n, duals, terms, r, m);
+        fill_with::<FEW_COUNTERS>(p, n, duals, terms, r, m);
     } else {
-        fill_many(p, n, duals, terms, r, m);
+        fill_with::<COUNTERS>(p, n, duals, terms, r, m);
     }
 }

@@ -19,24 +19,10 @@ use sizes::{BLOCK, DUALS, SPAN};
 pub const WEIGHT_AT: usize = 0;
 // Where it has the terms of the first dual word.
 pub const TERMS_AT: usize = POWERS_AT + 2 * BLOCK;
-// How many numbers a room has where words take a single block, and where they are longer.
+// How many numbers a room has where words take a single block, and where they are longer. In one that is all zeros nothing is listed yet.
 pub const TERMS: usize = TERMS_AT + BLOCK * DUALS;
 
 pub const LONG_TERMS: usize = TERMS_AT + SPAN * DUALS;
-
-// A room in which nothing is listed yet.
-pub fn room() -> [u16; TERMS]
-    ensures { (2240 ≡ length result) × (place result 0 ≡ 0) }
-{
-    [0; TERMS]
-}
-
-// The same for longer words.
-pub fn long_room() -> [u16; LONG_TERMS]
-    ensures { (8384 ≡ length result) × (place result 0 ≡ 0) }
-{
-    [0; LONG_TERMS]
-}
 
 // Puts the terms of dual word l into its row: that of each place is written, and stays where its symbol is not zero and the count goes on.
 fn list_dual(book: &[u8], p: u8, n: usize, l: usize, terms: &mut [u16]) -> usize

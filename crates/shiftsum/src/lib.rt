@@ -2,8 +2,7 @@
 // matrix is a local buffer.
 #![tactic(auto)]
 
-ghost use Rattle.std.specs.Prelude.{◌≡◌, true, false, [], length};
-ghost use Rattle.spec_book.specs.Layout.{is_long};
+ghost use Rattle.std.specs.Prelude.{◌≡◌, [], length};
 ghost use Rattle.spec_operations.specs.Check.{check_answer};
 ghost use Rattle.spec_operations.specs.Coding.{code_refusal, coded, read_refusal, message_of};
 ghost use Rattle.spec_operations.specs.Remainder.{remainder_refusal, remainder_of};
@@ -11,13 +10,13 @@ ghost use Rattle.spec_operations.specs.Decoding.{matrix_size, decode_refusal, de
 ghost use Rattle.spec_operations.specs.Burst.{burst_refusal, burst_word, ReturnsBurst};
 ghost use Rattle.spec_operations.specs.Game.{game_refusal, game_held, game_values, game_messages};
 ghost use Rattle.spec_operations.specs.Packed.{result_of, Returns};
-ghost use Rattle.book.specs.Opened.{few_symbols};
+ghost use Rattle.book.specs.Opened.{MatrixFits};
 ghost use Rattle.burst.specs.Said.{list_bytes};
 ghost use Rattle.shiftsum.specs.Made.{Made};
 ghost use Rattle.spec_operations.specs.Version.{version};
 
 use burst::{Burst, Record, record_at};
-use refusals::Done;
+use refusal::Refusal;
 use sizes::{FEW_MATRIX, LONG_FEW_MATRIX, MATRIX};
 
 // Tell the version.
@@ -39,8 +38,7 @@ pub fn shiftsum_code(book: &[u8], message: &[u8], word: &mut [u8]) -> u32
     ensures { Returns (code_refusal book.now message.now (length word.old))
         [] (coded book.now message.now) word.old result word.new }
 {
-    let done: Done = coder::code(book, message, word);
-    packing::pack_done(done)
+    packing::pack_done(coder::code(book, message, word))
 }
 
 // Read a code word.
@@ -48,8 +46,7 @@ pub fn shiftsum_read(book: &[u8], word: &[u8], message: &mut [u8]) -> u32
     ensures { Returns (read_refusal book.now word.now (length message.old))
         [] (message_of book.now word.now) message.old result message.new }
 {
-    let done: Done = coder::read(book, word, message);
-    packing::pack_done(done)
+    packing::pack_done(coder::read(book, word, message))
 }
 
 // Write the remainder of a word.
@@ -57,75 +54,20 @@ pub fn shiftsum_remainder(book: &[u8], word: &[u8], remainder: &mut [u8]) -> u32
     ensures { Returns (remainder_refusal book.now word.now (length remainder.old))
         [] (remainder_of book.now word.now) remainder.old result remainder.new }
 {
-    let done: Done = coder::remainder(book, word, remainder);
-    packing::pack_done(done)
+    packing::pack_done(coder::remainder(book, word, remainder))
 }
 
-// Rooms for a matrix: the largest, that of few symbols in a short book, and in a long one. Only the length matters: every entry is written before it is read.
-fn matrix_room() -> [u16; MATRIX]
-    ensures { 4080 ≡ length result }
-{
-    [0; MATRIX]
-}
-
-fn few_room() -> [u16; FEW_MATRIX]
-    ensures { 504 ≡ length result }
-{
-    [0; FEW_MATRIX]
-}
-
-fn long_few_room() -> [u16; LONG_FEW_MATRIX]
-    ensures { 2040 ≡ length result }
-{
-    [0; LONG_FEW_MATRIX]
-}
-
-// Decode a received word with a matrix of the exact size, by a short book with few symbols. Each room is the only one of its function, so that they may lie in
-// one place of the stack.
-fn decode_few(book: &[u8], received: &[u8], answer: &mut [u8]) -> u32
-    requires { (few_symbols book.now ≡ true) × (is_long book.now ≡ false) }
+// Decode a received word with room for a matrix of so many entries. It stands apart, so that a book has no room on the stack for one that asks for more.
+#[inline(never)]
+fn decode_in<const ENTRIES: usize>(book: &[u8], received: &[u8], answer: &mut [u8]) -> u32
+    requires { MatrixFits book.now ENTRIES }
     ensures { Returns (decode_refusal book.now received.now (length answer.old) (matrix_size book.now))
         (values (decode_bytes book.now received.now)) (decode_bytes book.now received.now).answer
         answer.old result answer.new }
 {
     let size = book::matrix_bound(book);
-    let mut room = few_room();
-    packing::pack_decoded(decode::decode_short(book, received, answer, &mut room[..size]))
-}
-
-// The same by any short book.
-fn decode_short(book: &[u8], received: &[u8], answer: &mut [u8]) -> u32
-    requires { is_long book.now ≡ false }
-    ensures { Returns (decode_refusal book.now received.now (length answer.old) (matrix_size book.now))
-        (values (decode_bytes book.now received.now)) (decode_bytes book.now received.now).answer
-        answer.old result answer.new }
-{
-    let size = book::matrix_bound(book);
-    let mut room = matrix_room();
-    packing::pack_decoded(decode::decode_short(book, received, answer, &mut room[..size]))
-}
-
-// The same by a long book with few symbols.
-fn decode_long_few(book: &[u8], received: &[u8], answer: &mut [u8]) -> u32
-    requires { few_symbols book.now ≡ true }
-    ensures { Returns (decode_refusal book.now received.now (length answer.old) (matrix_size book.now))
-        (values (decode_bytes book.now received.now)) (decode_bytes book.now received.now).answer
-        answer.old result answer.new }
-{
-    let size = book::matrix_bound(book);
-    let mut room = long_few_room();
-    packing::pack_decoded(decode::decode_long(book, received, answer, &mut room[..size]))
-}
-
-// The same by any book.
-fn decode_long(book: &[u8], received: &[u8], answer: &mut [u8]) -> u32
-    ensures { Returns (decode_refusal book.now received.now (length answer.old) (matrix_size book.now))
-        (values (decode_bytes book.now received.now)) (decode_bytes book.now received.now).answer
-        answer.old result answer.new }
-{
-    let size = book::matrix_bound(book);
-    let mut room = matrix_room();
-    packing::pack_decoded(decode::decode_long(book, received, answer, &mut room[..size]))
+    let mut room = [0u16; ENTRIES];
+    packing::pack_decoded(decode::decode(book, received, answer, &mut room[..size]))
 }
 
 // Decode a received word. The matrix is of the exact size, so refusal 10 tells of the answer alone. No room is larger than the book asks: to clear it costs time.
@@ -134,84 +76,51 @@ pub fn shiftsum_decode(book: &[u8], received: &[u8], answer: &mut [u8]) -> u32
         (values (decode_bytes book.now received.now)) (decode_bytes book.now received.now).answer
         answer.old result answer.new }
 {
-    let few = book::few_symbols(book);
+    if !book::few_symbols(book) {
+        return decode_in::<MATRIX>(book, received, answer);
+    }
     if book_layout::is_long(book) {
-        if few {
-            return decode_long_few(book, received, answer);
-        }
-        return decode_long(book, received, answer);
+        return decode_in::<LONG_FEW_MATRIX>(book, received, answer);
     }
-    if few {
-        return decode_few(book, received, answer);
-    }
-    decode_short(book, received, answer)
+    decode_in::<FEW_MATRIX>(book, received, answer)
 }
 
-// Decode a burst with a matrix of the exact size, by a short book with few symbols: its records come by value. The rooms are those of decode.
-fn burst_few(book: &[u8], words: u32, received: &[u8], answers: &mut [u8], list: usize) -> Burst
-    requires { (few_symbols book.now ≡ true) × (is_long book.now ≡ false) }
-    ensures { Made (burst_refusal book.now words received.now (length answers.old) list (matrix_size book.now))
-        words (burst_word book.now words received.now) answers.old result answers.new }
-{
-    let size = book::matrix_bound(book);
-    let mut room = few_room();
-    burst::burst_short(book, words, received, answers, list, &mut room[..size])
-}
-
-// The same by any short book.
-fn burst_short(book: &[u8], words: u32, received: &[u8], answers: &mut [u8], list: usize) -> Burst
-    requires { is_long book.now ≡ false }
-    ensures { Made (burst_refusal book.now words received.now (length answers.old) list (matrix_size book.now))
-        words (burst_word book.now words received.now) answers.old result answers.new }
-{
-    let size = book::matrix_bound(book);
-    let mut room = matrix_room();
-    burst::burst_short(book, words, received, answers, list, &mut room[..size])
-}
-
-// The same by a long book with few symbols.
-fn burst_long_few(
+// Decode a burst with room for a matrix of so many entries, of which the exact size is lent: its records come by value.
+#[inline(never)]
+fn burst_in<const ENTRIES: usize>(
     book: &[u8],
     words: u32,
     received: &[u8],
     answers: &mut [u8],
     list: usize,
-) -> Burst
-    requires { few_symbols book.now ≡ true }
+) -> Result<Burst, Refusal>
+    requires { MatrixFits book.now ENTRIES }
     ensures { Made (burst_refusal book.now words received.now (length answers.old) list (matrix_size book.now))
         words (burst_word book.now words received.now) answers.old result answers.new }
 {
     let size = book::matrix_bound(book);
-    let mut room = long_few_room();
-    burst::burst_long(book, words, received, answers, list, &mut room[..size])
-}
-
-// The same by any book.
-fn burst_long(book: &[u8], words: u32, received: &[u8], answers: &mut [u8], list: usize) -> Burst
-    ensures { Made (burst_refusal book.now words received.now (length answers.old) list (matrix_size book.now))
-        words (burst_word book.now words received.now) answers.old result answers.new }
-{
-    let size = book::matrix_bound(book);
-    let mut room = matrix_room();
-    burst::burst_long(book, words, received, answers, list, &mut room[..size])
+    let mut room = [0u16; ENTRIES];
+    burst::decode_burst(book, words, received, answers, list, &mut room[..size])
 }
 
 // The same with the room that the book asks.
-fn burst_made(book: &[u8], words: u32, received: &[u8], answers: &mut [u8], list: usize) -> Burst
+fn burst_made(
+    book: &[u8],
+    words: u32,
+    received: &[u8],
+    answers: &mut [u8],
+    list: usize,
+) -> Result<Burst, Refusal>
     ensures { Made (burst_refusal book.now words received.now (length answers.old) list (matrix_size book.now))
         words (burst_word book.now words received.now) answers.old result answers.new }
 {
-    let few = book::few_symbols(book);
+    if !book::few_symbols(book) {
+        return burst_in::<MATRIX>(book, words, received, answers, list);
+    }
     if book_layout::is_long(book) {
-        if few {
-            return burst_long_few(book, words, received, answers, list);
-        }
-        return burst_long(book, words, received, answers, list);
+        return burst_in::<LONG_FEW_MATRIX>(book, words, received, answers, list);
     }
-    if few {
-        return burst_few(book, words, received, answers, list);
-    }
-    burst_short(book, words, received, answers, list)
+    burst_in::<FEW_MATRIX>(book, words, received, answers, list)
 }
 
 // Decode a burst, and write its records into the caller's list. This is the one function over a slice of structs: all else is done by
@@ -227,11 +136,14 @@ pub fn shiftsum_burst(
         (matrix_size book.now)) words (burst_word book.now words received.now) answers.old (list_bytes records.old) result
         answers.new (list_bytes records.new) }
 {
-    let made = burst_made(book, words, received, answers, records.len());
+    let made = match burst_made(book, words, received, answers, records.len()) {
+        Ok(made) => made,
+        Err(why) => return packing::pack_refusal(why),
+    };
     for m in 0..made.count {
         records[m] = record_at(made, m);
     }
-    made.number as u32
+    0
 }
 
 // Take a game: its messages, all or none.

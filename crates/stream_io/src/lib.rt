@@ -10,8 +10,11 @@ ghost use Rattle.stream_state.specs.Stepping.{Rooms};
 ghost use Rattle.stream_turns.specs.Turns.{piece_size};
 ghost use Rattle.stream_io.specs.Answered.{Answers};
 
+use matrix_terms::LONG_TERMS;
+use sizes::{MATRIX, TABLE, WIDTH};
 use std::io;
 use std::io::{Read, Write};
+use stream_turns::rooms::{PIECE, TEXT};
 
 // How a run ended: all was answered, or a read failed and what was read is answered, or a write failed.
 #[derive(Clone, Copy)]
@@ -121,12 +124,12 @@ fn pass<R: Read, W: Write>(
 pub fn answer<R: Read, W: Write>(reader: &mut R, writer: &mut W) -> Ending
     ensures { Answers result (R.remaining reader.old) (R.remaining reader.new) (W.contents writer.old) (W.contents writer.new) }
 {
-    let mut t = word_table::table_room();
-    let mut terms = matrix_terms::long_room();
-    let mut answer = stream_turns::rooms::answer();
-    let mut entries = stream_turns::rooms::matrix();
-    let mut input = stream_turns::rooms::piece();
-    let mut output = stream_turns::rooms::text();
+    let mut t = [0u8; TABLE];
+    let mut terms = [0u16; LONG_TERMS];
+    let mut answer = [0u8; WIDTH];
+    let mut entries = [0u16; MATRIX];
+    let mut input = [0u8; PIECE];
+    let mut output = [0u8; TEXT];
     pass(
         reader,
         writer,

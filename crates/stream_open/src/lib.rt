@@ -8,17 +8,10 @@ ghost use Rattle.stream_state.specs.declared.Phase.TheVariants.{Opening};
 ghost use Rattle.stream_state.specs.State.{wanted_of, Sound};
 ghost use Rattle.stream_open.specs.Opening.{Told, Sayable, told_text, settled_of, Opens};
 
-use book::{Opened, Params};
+use book::Params;
+use refusal::Refusal;
 use sizes::BOOK;
 use stream_state::{FIELD, Phase, State};
-
-// What came of the opening: some of it is still coming, or the book is open, or it is refused, with its number.
-#[derive(Clone, Copy)]
-pub enum Judged {
-    Coming,
-    Open(Params),
-    Refused(u8),
-}
 
 // The state after the bytes of a piece before `at`, and where their text ends.
 #[derive(Clone, Copy)]
@@ -57,42 +50,38 @@ fn wanted(field: [u8; FIELD], got: usize) -> usize
     size
 }
 
-// What the field and the codebook so far tell. A codebook that is whole is opened.
-fn judge(field: [u8; FIELD], got: usize, book: &[u8], t: &mut [u8]) -> Judged
+// What the field and the codebook so far tell: none while some of it is still coming. A codebook that is whole is opened.
+fn judge(field: [u8; FIELD], got: usize, book: &[u8], t: &mut [u8]) -> Result<Option<Params>, Refusal>
     requires { (length field ≡ 2) × (got ≤ 2) × (length t.old ≡ 8192) }
     ensures { Told (take got field) book.now result t.new }
 {
     if got < FIELD {
-        return Judged::Coming;
+        return Ok(None);
     }
     let size = book_length(field);
     if BOOK < size {
-        return Judged::Refused(1);
+        return Err(Refusal::BookLength);
     }
     if book.len() < size {
-        return Judged::Coming;
+        return Ok(None);
     }
-    let opened = book::open(book, t);
-    match opened {
-        Opened::Open(c) => Judged::Open(c),
-        Opened::Refused(number) => Judged::Refused(number),
-    }
+    let c = book::open(book, t)?;
+    Ok(Some(c))
 }
 
 // The text of the opening, which is none unless it is refused.
-fn put_told(told: Judged, out: &mut [u8]) -> usize
+fn put_told(told: Result<Option<Params>, Refusal>, out: &mut [u8]) -> usize
     requires { Sayable told × (5 ≤ length out.old) }
     ensures { Printed out.old 0 (told_text told) out.new result × (result ≤ 5) }
 {
     match told {
-        Judged::Coming => 0,
-        Judged::Open(_) => 0,
-        Judged::Refused(number) => stream_text::put_refusal(out, 0, number),
+        Ok(_) => 0,
+        Err(why) => stream_text::put_refusal(out, 0, u8::from(why)),
     }
 }
 
 // The state with the phase that was told, and the parameters of an open book.
-fn settled(s: State, told: Judged) -> State
+fn settled(s: State, told: Result<Option<Params>, Refusal>) -> State
     ensures { result ≡ settled_of s told }
 {
     let field = s.field;
@@ -101,12 +90,12 @@ fn settled(s: State, told: Judged) -> State
     let mut phase = Phase::Opening;
     let mut params = s.params;
     match told {
-        Judged::Coming => {}
-        Judged::Open(c) => {
+        Ok(None) => {}
+        Ok(Some(c)) => {
             phase = Phase::Answering;
             params = c;
         }
-        Judged::Refused(_) => {
+        Err(_) => {
             phase = Phase::Ended;
         }
     }

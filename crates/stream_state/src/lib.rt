@@ -44,19 +44,12 @@ pub struct Stepped {
     pub end: usize,
 }
 
-// Room for the longest codebook.
-fn book_room() -> [u8; BOOK]
-    ensures { 8454 ≡ length result }
-{
-    [0; BOOK]
-}
-
 // No byte came.
 pub fn start() -> State
     ensures { (state_of result ≡ machine.start) × ((t terms : List ℕ) → length t ≡ 8192 → length terms ≡ 8384 → Sound result t terms) }
 {
     let field = [0; FIELD];
-    let book = book_room();
+    let book = [0; BOOK];
     let begun = [0; WIDTH];
     let params = Params {
         p: 0,

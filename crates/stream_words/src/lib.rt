@@ -8,7 +8,6 @@ ghost use Rattle.spec_program.specs.Output.{word_line, lines_of};
 ghost use Rattle.stream_words.specs.Ready.{Ready};
 
 use book::Params;
-use decode::Decoded;
 
 // The line of one word, from index `at` on. Answer and matrix are lent, so that no word clears them anew.
 pub fn put_word(
@@ -26,12 +25,16 @@ pub fn put_word(
     ensures { Printed out.old at (word_line book.now word.now) out.new result
         × (result ≤ at + (10 + 2 * c.n)) × TermsRoom book.now c terms.new }
 {
-    let said = decode::decode_word(book, c, t, terms, word, answer, entries);
-    match said {
-        Decoded::Answered(kind, rounds, changed) => {
-            stream_text::put_answer(out, at, decode::letter(kind), rounds, changed, answer)
-        }
-        Decoded::Refused(number) => stream_text::put_refusal(out, at, number),
+    match decode::decode_word(book, c, t, terms, word, answer, entries) {
+        Ok(told) => stream_text::put_answer(
+            out,
+            at,
+            u8::from(told.kind),
+            told.rounds,
+            told.changed,
+            answer,
+        ),
+        Err(why) => stream_text::put_refusal(out, at, u8::from(why)),
     }
 }
 

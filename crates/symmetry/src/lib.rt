@@ -7,17 +7,18 @@ ghost use Rattle.spec_operations.specs.Twice.{Given, Related};
 ghost use Rattle.spec_operations.specs.Burst.{burst_refusal, burst_word};
 ghost use Rattle.spec_operations.specs.BurstTwice.{BurstSizes, GivenBursts, RelatedBursts};
 ghost use Rattle.decode.specs.Decoded.{said};
-ghost use Rattle.burst.specs.Said as bursts;
+ghost use Rattle.refusal.specs.Number as bursts;
 ghost use Rattle.burst.specs.Said.{made_bytes, Answered};
 
 use burst::Burst;
 use decode::Decoded;
+use refusal::Refusal;
 
 // What the two calls answer.
 #[derive(Clone, Copy)]
 pub struct Two {
-    pub first: Decoded,
-    pub second: Decoded,
+    pub first: Result<Decoded, Refusal>,
+    pub second: Result<Decoded, Refusal>,
 }
 
 // Both calls answer and write what decode's definition says, whatever is given. For all t, c and v together: where the second word is the first turned by t,
@@ -52,8 +53,8 @@ pub fn decode_twice(
 // What the two bursts answer.
 #[derive(Clone, Copy)]
 pub struct TwoBursts {
-    pub first: Burst,
-    pub second: Burst,
+    pub first: Result<Burst, Refusal>,
+    pub second: Result<Burst, Refusal>,
 }
 
 // The same of two bursts of one count of words: both answer and write what the definition says, whatever is given. For all words w, and for all turns t,

@@ -10,33 +10,7 @@ ghost use Rattle.word_table.specs.Multiples.{word_of, Multiples};
 ghost use Rattle.word_table.specs.Window.{Window};
 ghost use Rattle.word_divide.specs.Window.{Dividend, AddedAt, Remains, DividedBy};
 
-use sizes::{BLOCK, SPAN, STRIDE};
-
-// Buffers for the longest word's division, and for its quotient. Only the lengths matter: what is read is written first.
-pub fn room() -> [u8; STRIDE]
-    ensures { 512 ≡ length result }
-{
-    [0; STRIDE]
-}
-
-pub fn quotient_room() -> [u8; SPAN]
-    ensures { 256 ≡ length result }
-{
-    [0; SPAN]
-}
-
-// The same for words of one block: to clear more costs time.
-pub fn short_room() -> [u8; 2 * BLOCK]
-    ensures { 128 ≡ length result }
-{
-    [0; 2 * BLOCK]
-}
-
-pub fn short_quotient_room() -> [u8; BLOCK]
-    ensures { 64 ≡ length result }
-{
-    [0; BLOCK]
-}
+use sizes::{BLOCK, SPAN};
 
 // Adds the block of a table from `from` on to the places from i on. The sum is made in a block of its own: written straight into v, it is compiled with a
 // test whether t and v overlap.
@@ -100,7 +74,7 @@ pub fn remainder(p: u8, n: usize, d: usize, t: &[u8], w: &[u8], v: &mut [u8])
         × (n + span n ≤ length v.old) }
     ensures { Remains p n d (word_of (stride n) n t.now) (place w.now) v.new }
 {
-    let mut quotient = quotient_room();
+    let mut quotient = [0u8; SPAN];
     divide(p, n, d, t, w, v, &mut quotient);
 }
 

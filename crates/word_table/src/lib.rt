@@ -12,21 +12,7 @@ ghost use Rattle.word_table.specs.Window.{Window};
 ghost use Rattle.word_table.specs.Multiples.{Laid, entry, Begun, RowStored, RowPut, Tabled};
 ghost use Rattle.word_table.specs.Rows.{turned_sum, Summands};
 
-use sizes::{BLOCK, FEW_TABLE, TABLE};
-
-// Room for a table of multiples. Only its length matters: what is read of it is written first.
-pub fn table_room() -> [u8; TABLE]
-    ensures { 8192 ≡ length result }
-{
-    [0; TABLE]
-}
-
-// The same where symbols are few and words short: to clear more costs time.
-pub fn few_table_room() -> [u8; FEW_TABLE]
-    ensures { 1024 ≡ length result }
-{
-    [0; FEW_TABLE]
-}
+use sizes::BLOCK;
 
 // The block of a slice from `from` on.
 pub fn block(s: &[u8], from: usize) -> [u8; BLOCK]
