@@ -1,21 +1,21 @@
 -- `field::product` meets its contract.
 -- Assumes nothing.
-use mathlib.Core.Path.{ap, ◌∙◌, sym}
-use mathlib.Core.List.{[], ◌∷◌}
-use Prim.Native.Nat.{ℕ}
+use mathlib.Core.Path.{sym}
 use native.Mathlib.Omega.{arith}
-use Rattle.spec_field.specs.Answer.{done}
-use Rattle.spec_field.proofs.Refusals.{accepted, answers_refused, answers_done}
+use Rattle.std.proofs.lemmas.Result.{err_from_is_err_and}
+use Rattle.spec_field.proofs.Refusals.{accepted}
+use Rattle.refusal.proofs.Numbers.{refused_is, done_is}
 use Rattle.field.proofs.product.Goals as goal
 
-pub returns-then-n-ne0 : goal.returns-then-n-ne0
-returns-then-n-ne0 c = answers_refused _ _ _ c.refusal-n.ensures c.if-n-ne0.true
+pub returns-in_err-refusal : goal.returns-in_err-refusal
+returns-in_err-refusal c =
+    let p = err_from_is_err_and c.from_residual.result c.from_residual.ensures.1 in
+    rw (p.1, p.2) (refused_is _ _ _ c.in_err-refusal.ensures)
 
 pub mul-requires : goal.mul-requires
-mul-requires c = let s = c.args in
-    let h = accepted s.p s.a s.b (sym c.refusal-n.ensures ∙ c.if-n-ne0.false) in
+mul-requires c =
+    let h = accepted _ _ _ (sym c.in_ok-refusal.ensures) in
     (h.low, h.high, omega (arith, h.left, h.right), omega (arith, h.left, h.right))
 
 pub returns : goal.returns
-returns c =
-    ap (λ (a : ℕ). done (a ∷ [])) c.mul.ensures.0 ∙ answers_done _ _ _ c.refusal-n.ensures c.if-n-ne0.false
+returns c = rw c.mul.ensures.0 (done_is _ _ c.in_ok-refusal.ensures)

@@ -1,10 +1,13 @@
 -- `field::sum` meets its contract.
 -- Assumes nothing.
-use Rattle.spec_field.proofs.Refusals.{answers_refused, answers_done}
+use Rattle.std.proofs.lemmas.Result.{err_from_is_err_and}
+use Rattle.refusal.proofs.Numbers.{refused_is, done_is}
 use Rattle.field.proofs.sum.Goals as goal
 
-pub returns-then-n-ne0 : goal.returns-then-n-ne0
-returns-then-n-ne0 c = answers_refused _ _ _ c.refusal-n.ensures c.if-n-ne0.true
+pub returns-in_err-refusal : goal.returns-in_err-refusal
+returns-in_err-refusal c =
+    let p = err_from_is_err_and c.from_residual.result c.from_residual.ensures.1 in
+    rw (p.1, p.2) (refused_is _ _ _ c.in_err-refusal.ensures)
 
 pub returns : goal.returns
-returns c = answers_done _ _ _ c.refusal-n.ensures c.if-n-ne0.false
+returns c = done_is _ _ c.in_ok-refusal.ensures
