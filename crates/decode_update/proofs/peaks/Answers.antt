@@ -8,9 +8,6 @@ use lib.ListN.{length}
 use Rattle.decode_update.proofs.Climbing.{climbing_none, climbing_more, row_within, part_length}
 use Rattle.decode_update.proofs.peaks.Goals as goal
 
-pub overflow_sub-last : goal.overflow_sub-last
-overflow_sub-last c = omega (arith, pow_pos c.args.p)
-
 pub loop-i-init : goal.loop-i-init
 loop-i-init c =
     let s = c in

@@ -6,6 +6,3 @@ use Rattle.decode_update.proofs.peaks.Given as goal
 
 abbrev pub invariant-loop-i : goal.invariant-loop-i
 invariant-loop-i l = Climbing (2 ^ l.p) l.n l.m l.i l.counts l.symbols
-
-abbrev pub decreases-loop-i : goal.decreases-loop-i
-decreases-loop-i l = l.last + 1 - l.i
