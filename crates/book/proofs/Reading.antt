@@ -1,6 +1,6 @@
 -- What readable bytes hold: where the generator's places are, and what is known of the bodies.
 -- Assumes nothing.
-use mathlib.Core.Path.{◌≡◌, sym, subst}
+use mathlib.Core.Path.{◌≡◌, refl, sym, subst}
 use mathlib.Core.Bool.{Bool, true, false, cond}
 use mathlib.Core.List.{List}
 use Prim.Native.Nat.{ℕ, ◌+◌, ◌^◌, ◌≤◌, ◌<◌}
@@ -10,7 +10,7 @@ use Rattle.spec_range.proofs.Tests.{and_left, and_right}
 use Rattle.spec_range.proofs.Table.{table_at, all-at}
 use Rattle.sizes.specs.Blocks.{span}
 use Rattle.word_array.specs.Stored.{Sizes}
-use Rattle.spec_book.specs.Layout.{generator_at, dual_at, byte, is_long, width, duals_in, body_place, word_length, degree_of, book_of}
+use Rattle.spec_book.specs.Layout.{generator_at, dual_at, byte, is_long, width, duals_in, body_place, symbol_digits, word_length, degree_of, book_of}
 use Rattle.spec_book.specs.Conditions.{kinds_ok, body_ok, symbols_ok}
 use Rattle.spec_book.proofs.Accepting.{sizes, body_symbol}
 use Rattle.book_layout.proofs.Sized.{word_sizes, word_spanned}
@@ -52,6 +52,9 @@ module _ {bytes : List ℕ} (r : Readable bytes) where
   sized e =
       let s = sizes bytes r.sizes in
       record { whole = r.whole; n_is = e; n_low = omega (arith, s.n_low); n_high = omega (arith, s.n_high) }
+
+  pub read_of : {n : ℕ} → n ≡ word_length bytes → Read bytes (symbol_digits bytes) n
+  read_of e = record { readable = r; sized = sized e; p_is = refl }
 
 -- ---- p and n of readable bytes
 

@@ -1,5 +1,5 @@
 // The conditions 5 and 6: the generator, and the limits of decoding.
-ghost use Rattle.std.specs.Prelude.{◌≡◌, ◌+◌, ◌<◌, ◌≤◌, length};
+ghost use Rattle.std.specs.Prelude.{◌≡◌, suc, ◌+◌, ◌<◌, ◌≤◌, length};
 ghost use Rattle.spec_book.specs.Layout.{width, degree_of, field_of, book_of};
 ghost use Rattle.spec_book.specs.Conditions.{generator_ok};
 ghost use Rattle.spec_field.specs.Symbols.{gf};
@@ -57,8 +57,8 @@ pub fn generator_ok(book: &[u8], c: Params, t: &[u8]) -> bool
 
 // Whether the remainder of x^n - 1 is zero, with rooms of so many places for the division and its quotient.
 fn divides_unity<const ROOM: usize, const QUOTIENT: usize>(c: Params, t: &[u8]) -> bool
-    requires { Sizes c.p c.n × (1 ≤ c.degree) × (c.degree < c.n) × Multiples (stride c.n) c.p c.n t.now × (c.n + span c.n ≤ ROOM) × (c.n ≤ QUOTIENT) }
-    ensures { result ≡ divides (gf c.p) (word_of (stride c.n) c.n t.now) c.degree (c.n + 1) (unity c.n) }
+    requires { Sizes c.p c.n × (1 ≤ c.degree) × (c.degree < c.n) × Multiples (stride c.n) c.p c.n t.now × (c.n + span c.n ≤ ROOM) × (ROOM ≤ 512) × (c.n ≤ QUOTIENT) × (QUOTIENT ≤ 256) }
+    ensures { result ≡ divides (gf c.p) c.degree (word_of (stride c.n) c.n t.now) (suc c.n) (unity c.n) }
 {
     let mut rest = [0u8; ROOM];
     let mut quotient = [0u8; QUOTIENT];

@@ -120,7 +120,7 @@ pub fn check(book: &[u8]) -> Result<u8, Refusal>
 
 // The same with room for a table of so many places.
 fn check_in<const TABLE: usize>(book: &[u8]) -> Result<u8, Refusal>
-    requires { table_room book.now ≤ TABLE }
+    requires { (table_room book.now ≤ TABLE) × (TABLE ≤ 8192) }
     ensures { said result ≡ check_answer book.now }
 {
     let mut t = [0u8; TABLE];

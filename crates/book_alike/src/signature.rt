@@ -20,7 +20,7 @@ pub fn signatures(n: usize, book: &[u8], duals: usize) -> [u16; DUALS]
 {
     let inside = word_alike::inside(n);
     let most = ROWS >> sizes::shift(n);
-    let mut rows = [0u8; ROWS];
+    let mut rows = rows_room();
     let mut out = [0u16; DUALS];
     let mut l = 0;
     while l < duals {
@@ -32,15 +32,24 @@ pub fn signatures(n: usize, book: &[u8], duals: usize) -> [u16; DUALS]
     out
 }
 
+// Room for the rows.
+fn rows_room() -> [u8; ROWS]
+    ensures { 1024 ≡ length result }
+{
+    [0; ROWS]
+}
+
 // Lays k dual words out, from dual word l on, each twice over in a row of its own.
 fn lay(n: usize, book: &[u8], l: usize, k: usize, rows: &mut [u8])
     requires { Bodies book.now n (l + k) × (stride n * k ≤ length rows.old) }
     ensures { Rows (stride n) book.now n l k rows.old rows.new }
 {
     let stride = 2 * BLOCK * sizes::blocks(n);
-    for i in 0..k {
+    let mut i = 0;
+    while i < k {
         let from = book_layout::dual_at(book, l + i) + 1;
         word_table::lay(n, book, from, stride * i, rows);
+        i += 1;
     }
 }
 
@@ -50,8 +59,10 @@ fn sign(n: usize, rows: &[u8], k: usize, inside: &[u8], l: usize, out: &mut [u16
     ensures { Window l k (λ i. signature_of n (λ j. place rows.now (stride n * i + j))) out.old out.new }
 {
     let blocks = sizes::blocks(n);
-    for i in 0..k {
+    let mut i = 0;
+    while i < k {
         out[l + i] = word_alike::signature(n, blocks, rows, 2 * BLOCK * blocks * i, inside);
+        i += 1;
     }
 }
 
@@ -61,8 +72,10 @@ pub fn all_differ(count: usize, s: &[u16]) -> bool
     ensures { result ≡ eqb (total count (λ l. times_of s.now (place s.now l))) count }
 {
     let mut found: u16 = 0;
-    for l in 0..count {
+    let mut l = 0;
+    while l < count {
         found += times(s, s[l]);
+        l += 1;
     }
     found as usize == count
 }
@@ -73,8 +86,10 @@ fn times(s: &[u16], x: u16) -> u16
     ensures { (result ≡ times_of s.now x) × (result ≤ 32) }
 {
     let mut found: u16 = 0;
-    for m in 0..DUALS {
+    let mut m = 0;
+    while m < DUALS {
         found += (s[m] == x) as u16;
+        m += 1;
     }
     found
 }

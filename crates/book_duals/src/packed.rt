@@ -13,7 +13,7 @@ ghost use Rattle.spec_book.specs.Layout.{width, dual_at};
 ghost use Rattle.book_duals.specs.Duals.{dual_product, product_ok, Zeros, Tested};
 ghost use Rattle.book_duals.specs.Lanes.{lanes, low_digits, other_digits, double_all, packed_at};
 
-use sizes::{BLOCK, FEW_TABLE, SPAN, TABLE};
+use sizes::{BLOCK, SPAN};
 
 // Whether all products are zero. Rooms are small where words are short: to clear more costs time.
 pub fn products_vanish(p: u8, n: usize, book: &[u8], duals: usize) -> bool
@@ -21,25 +21,14 @@ pub fn products_vanish(p: u8, n: usize, book: &[u8], duals: usize) -> bool
     ensures { result ≡ all duals (product_ok p n book.now) }
 {
     if n < BLOCK {
-        vanish_with::<FEW_TABLE, BLOCK>(p, n, book, duals)
-    } else {
-        vanish_with::<TABLE, SPAN>(p, n, book, duals)
+        let mut t = word_table::few_table_room();
+        let mut product = [0u8; BLOCK];
+        let mut left = [0u8; BLOCK];
+        return vanish_in(p, n, book, duals, &mut t, &mut product, &mut left);
     }
-}
-
-// The same with room for a table and for words of so many places.
-fn vanish_with<const TABLE: usize, const PLACES: usize>(
-    p: u8,
-    n: usize,
-    book: &[u8],
-    duals: usize,
-) -> bool
-    requires { Tested book.now p n duals × (p ≤ 3) × (stride n * 2 ^ p ≤ TABLE) × (span n ≤ PLACES) }
-    ensures { result ≡ all duals (product_ok p n book.now) }
-{
-    let mut t = [0u8; TABLE];
-    let mut product = [0u8; PLACES];
-    let mut left = [0u8; PLACES];
+    let mut t = word_table::table_room();
+    let mut product = [0u8; SPAN];
+    let mut left = [0u8; SPAN];
     vanish_in(p, n, book, duals, &mut t, &mut product, &mut left)
 }
 
@@ -86,9 +75,11 @@ fn packed(p: u8, n: usize, book: &[u8], l: usize, k: usize, out: &mut [u8])
     ensures { Window 0 (span n) (packed_at p book.now l k) out.old out.new }
 {
     let blocks = sizes::blocks(n);
-    for b in 0..blocks {
+    let mut b = 0;
+    while b < blocks {
         let block = packed_block(p, book, l, k, BLOCK * b);
         word_table::put_block(block, BLOCK * b, out);
+        b += 1;
     }
 }
 
@@ -99,7 +90,8 @@ fn packed_block(p: u8, book: &[u8], l: usize, k: usize, at: usize) -> [u8; BLOCK
 {
     let mut out = [0u8; BLOCK];
     let mut shift: u8 = 0;
-    for i in 0..k {
+    let mut i = 0;
+    while i < k {
         pack(
             book,
             book_layout::dual_at(book, l + i) + at,
@@ -107,6 +99,7 @@ fn packed_block(p: u8, book: &[u8], l: usize, k: usize, at: usize) -> [u8; BLOCK
             &mut out,
         );
         shift += p;
+        i += 1;
     }
     out
 }
@@ -116,8 +109,10 @@ fn pack(book: &[u8], start: usize, shift: u8, out: &mut [u8; BLOCK])
     requires { (shift < 8) × (start + 64 ≤ length book.now) × (length out.old ≡ 64) }
     ensures { out.new ≡ table 64 (λ j. bit_xor (place out.old j) (place book.now (start + j) * 2 ^ shift % 256)) }
 {
-    for j in 0..BLOCK {
+    let mut j = 0;
+    while j < BLOCK {
         out[j] = out[j] ^ (book[start + j] << shift);
+        j += 1;
     }
 }
 
@@ -131,9 +126,11 @@ fn multiples(p: u8, n: usize, w: &[u8], t: &mut [u8])
     let blocks = sizes::blocks(n);
     let q = sizes::wide(field::order(p));
     word_table::put_first_rows(n, w, 1, t);
-    for c in 1..q / 2 {
+    let mut c: usize = 1;
+    while 2 * c < q {
         double_row(p, blocks, c, t);
         word_table::put_next(blocks, c, t);
+        c += 1;
     }
 }
 
@@ -144,9 +141,11 @@ fn double_row(p: u8, blocks: usize, c: usize, t: &mut [u8])
 {
     let from = 2 * BLOCK * blocks * c;
     let to = 2 * BLOCK * blocks * (2 * c);
-    for b in 0..2 * blocks {
+    let mut b = 0;
+    while b < 2 * blocks {
         let row = word_table::block(t, from + BLOCK * b);
         double_block(p, row, to + BLOCK * b, t);
+        b += 1;
     }
 }
 
@@ -159,11 +158,13 @@ fn double_block(p: u8, row: [u8; BLOCK], to: usize, t: &mut [u8])
     let ones = low_digits(p);
     let others = other_digits(p);
     let up = p - 1;
-    for j in 0..BLOCK {
+    let mut j = 0;
+    while j < BLOCK {
         let x = row[j];
         let top = (x >> up) & ones;
         let rest = x & others;
         t[to + j] = (rest + rest) ^ (top * 3);
+        j += 1;
     }
 }
 

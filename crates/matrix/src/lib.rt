@@ -15,8 +15,10 @@ pub fn clear(m: &mut [u16])
     ensures { m.new ≡ table (length m.old) (λ k. 0) }
 {
     let size = m.len();
-    for k in 0..size {
+    let mut k = 0;
+    while k < size {
         m[k] = 0;
+        k += 1;
     }
 }
 

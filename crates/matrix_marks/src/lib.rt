@@ -2,7 +2,7 @@
 // that power. Dividing by a symbol is an offset of rows, and turning is an offset of places, so that the counters are sums of marks.
 #![tactic(auto)]
 
-ghost use Rattle.std.specs.Prelude.{◌≡◌, ℕ, ◌+◌, ◌*◌, ◌^◌, ◌≤◌, ◌<◌, eqb, length};
+ghost use Rattle.std.specs.Prelude.{◌≡◌, ℕ, ◌+◌, ◌*◌, ◌^◌, ◌≤◌, ◌<◌, eqb, length, replicate};
 ghost use Rattle.spec_range.specs.Fold.{indicator};
 ghost use Rattle.spec_range.specs.Table.{table};
 ghost use Rattle.spec_word.specs.Word.{at};
@@ -13,7 +13,7 @@ ghost use Rattle.word_table.specs.Window.{Window};
 ghost use Rattle.matrix_terms.specs.Count.{counted};
 ghost use Rattle.matrix_terms.specs.Terms.{TermsOf, Filling};
 ghost use Rattle.matrix_marks.specs.Marks.{powers_in, Markable, Marked, Addable, marks_of, Summable, terms_from, term_counts, Turned, Counted, Tallied};
-ghost use Rattle.matrix_marks.specs.Marks.{Countable, Gatherable, Gathered, Rooms, RoomsFit};
+ghost use Rattle.matrix_marks.specs.Marks.{Countable, Gatherable, Gathered, Rooms};
 
 use field_powers::POWERS_AT;
 use matrix_terms::{TERMS_AT, WEIGHT_AT};
@@ -37,8 +37,10 @@ fn marked(w: [u8; BLOCK], s: u8) -> [u8; BLOCK]
     ensures { result ≡ table 64 (λ j. indicator (eqb (place w j) s)) }
 {
     let mut out = [0u8; BLOCK];
-    for j in 0..BLOCK {
+    let mut j = 0;
+    while j < BLOCK {
         out[j] = (w[j] == s) as u8;
+        j += 1;
     }
     out
 }
@@ -48,9 +50,11 @@ fn mark(blocks: usize, w: &[u8], s: u8, to: usize, v: &mut [u8])
     requires { (64 * blocks ≤ length w.now) × (to + 64 * blocks ≤ length v.old) }
     ensures { Window to (64 * blocks) (λ j. indicator (eqb (place w.now j) s)) v.old v.new }
 {
-    for b in 0..blocks {
+    let mut b = 0;
+    while b < blocks {
         let m = marked(word_table::block(w, BLOCK * b), s);
         word_table::put_block(m, to + BLOCK * b, v);
+        b += 1;
     }
 }
 
@@ -59,11 +63,13 @@ fn mark_rows(n: usize, blocks: usize, rows: usize, terms: &[u16], w: &[u8], v: &
     requires { Markable (128 * blocks) (64 * blocks) n rows terms.now w.now v.old }
     ensures { Marked (128 * blocks) (64 * blocks) n rows (powers_in terms.now) w.now v.new }
 {
-    for e in 0..rows {
+    let mut e = 0;
+    while e < rows {
         let s = terms[POWERS_AT + e] as u8;
         let to = 2 * BLOCK * blocks * e;
         mark(blocks, w, s, to, v);
         mark(blocks, w, s, to + n, v);
+        e += 1;
     }
 }
 
@@ -72,8 +78,10 @@ fn add_marks(v: &[u8], from: usize, row: &mut [u8; BLOCK])
     requires { Addable 64 v.now from row.old }
     ensures { row.new ≡ table 64 (λ j. place row.old j + place v.now (from + j)) }
 {
-    for j in 0..BLOCK {
+    let mut j = 0;
+    while j < BLOCK {
         row[j] += v[from + j];
+        j += 1;
     }
 }
 
@@ -83,8 +91,10 @@ fn count_block(v: &[u8], start: usize, terms: &[u16], from: usize, weight: usize
     ensures { result ≡ table 64 (marks_of v.now start terms.now from weight) }
 {
     let mut row = [0u8; BLOCK];
-    for i in 0..weight {
+    let mut i = 0;
+    while i < weight {
         add_marks(v, start + (terms[from + i] as usize), &mut row);
+        i += 1;
     }
     row
 }
@@ -94,8 +104,10 @@ fn raise(row: [u8; BLOCK], to: usize, counts: &mut [u16])
     requires { (to + 64 ≤ length counts.old) × ((j : ℕ) → j < 64 → place counts.old (to + j) ≤ 65280) }
     ensures { Window to 64 (λ j. place counts.old (to + j) + place row j) counts.old counts.new }
 {
-    for j in 0..BLOCK {
+    let mut j = 0;
+    while j < BLOCK {
         counts[to + j] += row[j] as u16;
+        j += 1;
     }
 }
 
@@ -115,9 +127,11 @@ fn count_row(
     ensures { Window to (64 * blocks) (λ j. place counts.old (to + j) + marks_of v.now start terms.now from weight j)
         counts.old counts.new }
 {
-    for b in 0..blocks {
+    let mut b = 0;
+    while b < blocks {
         let row = count_block(v, start + BLOCK * b, terms, from, weight);
         raise(row, to + BLOCK * b, counts);
+        b += 1;
     }
 }
 
@@ -139,7 +153,8 @@ fn count_dual(
 {
     let rows = sizes::wide(field::order(p)) - 1;
     mark_rows(n, blocks, 2 * rows, terms, w, v);
-    for e in 0..rows {
+    let mut e = 0;
+    while e < rows {
         count_row(
             blocks,
             v,
@@ -150,6 +165,7 @@ fn count_dual(
             BLOCK * blocks * e,
             counts,
         );
+        e += 1;
     }
 }
 
@@ -158,8 +174,10 @@ fn gather_row(n: usize, to: usize, from: usize, counts: &[u16], m: &mut [u16])
     requires { (to + n ≤ length m.old) × (from + n ≤ length counts.now) }
     ensures { Window to n (λ j. place counts.now (from + j)) m.old m.new }
 {
-    for j in 0..n {
+    let mut j = 0;
+    while j < n {
         m[to + j] = counts[from + j];
+        j += 1;
     }
 }
 
@@ -169,9 +187,18 @@ fn gather(p: u8, n: usize, blocks: usize, terms: &[u16], counts: &[u16], m: &mut
     ensures { Gathered (64 * blocks) p n terms.now counts.now m.new }
 {
     let q = sizes::wide(field::order(p));
-    for i in 1..q {
+    let mut i: usize = 1;
+    while i < q {
         gather_row(n, i * n, BLOCK * blocks * (terms[i] as usize), counts, m);
+        i += 1;
     }
+}
+
+// Room for the product of a dual word and the received word.
+fn product_room() -> [u8; SPAN]
+    ensures { 256 ≡ length result }
+{
+    [0; SPAN]
 }
 
 // Counts the dual words. t is the table of the received word's multiples, and v room for marks.
@@ -189,8 +216,9 @@ fn count_duals(
 {
     let weight = terms[WEIGHT_AT] as usize;
     let blocks = sizes::blocks(n);
-    let mut w = [0u8; SPAN];
-    for l in 0..duals {
+    let mut w = product_room();
+    let mut l = 0;
+    while l < duals {
         matrix_terms::product(l, p, n, duals, terms, t, &mut w);
         count_dual(
             p,
@@ -203,7 +231,15 @@ fn count_duals(
             v,
             counts,
         );
+        l += 1;
     }
+}
+
+// Room for the table of a word's multiples, short or long.
+fn multiples_room() -> [u8; MULTIPLES]
+    ensures { 2048 ≡ length result }
+{
+    [0; MULTIPLES]
 }
 
 // Fills the matrix in lent rooms for the marks and the counters, which are zero. The table has its room here, where it takes no stack of the other way to
@@ -222,27 +258,57 @@ fn fill_in(
         × Rooms (stride n) (span n) p v.old counts.old }
     ensures { (b : ℕ → ℕ → ℕ) → TermsOf (stride n) p n duals b terms.now → m.new ≡ counted p n b duals (at n r.now) }
 {
-    let mut t = [0u8; MULTIPLES];
+    let mut t = multiples_room();
     word_table::tabulate(p, n, r, 0, &mut t);
     count_duals(p, n, duals, terms, &t, v, counts);
     gather(p, n, sizes::blocks(n), terms, counts, m);
     matrix_terms::row_zero(p, n, (duals as u16) * terms[WEIGHT_AT], m);
 }
 
-// Fills the matrix with room for so many marks and counters: to clear more room costs time.
-fn fill_with<const MARKS: usize, const COUNTERS: usize>(
-    p: u8,
-    n: usize,
-    duals: usize,
-    terms: &[u16],
-    r: &[u8],
-    m: &mut [u16],
-)
-    requires { Filling (stride n) p n duals terms.now r.now m.old × (stride n * 2 ^ p ≤ 2048) × RoomsFit (stride n) (span n) p MARKS COUNTERS }
+// Room for the marks of a dual word.
+fn mark_room() -> [u8; MARKS]
+    ensures { 1792 ≡ length result }
+{
+    [0; MARKS]
+}
+
+// Counters, all zero.
+fn counters() -> [u16; COUNTERS]
+    ensures { result ≡ replicate 512 0 }
+{
+    [0; COUNTERS]
+}
+
+// The same for longer words.
+fn long_mark_room() -> [u8; LONG_MARKS]
+    ensures { 3072 ≡ length result }
+{
+    [0; LONG_MARKS]
+}
+
+fn long_counters() -> [u16; LONG_COUNTERS]
+    ensures { result ≡ replicate 1024 0 }
+{
+    [0; LONG_COUNTERS]
+}
+
+// Fills the matrix of a word of a single block: to clear more room costs time.
+fn fill_short(p: u8, n: usize, duals: usize, terms: &[u16], r: &[u8], m: &mut [u16])
+    requires { Filling (stride n) p n duals terms.now r.now m.old × (p ≤ 3) × (n < 64) }
     ensures { (b : ℕ → ℕ → ℕ) → TermsOf (stride n) p n duals b terms.now → m.new ≡ counted p n b duals (at n r.now) }
 {
-    let mut v = [0u8; MARKS];
-    let mut counts = [0u16; COUNTERS];
+    let mut v = mark_room();
+    let mut counts = counters();
+    fill_in(p, n, duals, terms, r, &mut v, &mut counts, m);
+}
+
+// The same of a longer word.
+fn fill_long(p: u8, n: usize, duals: usize, terms: &[u16], r: &[u8], m: &mut [u16])
+    requires { Filling (stride n) p n duals terms.now r.now m.old × (p ≤ 2) }
+    ensures { (b : ℕ → ℕ → ℕ) → TermsOf (stride n) p n duals b terms.now → m.new ≡ counted p n b duals (at n r.now) }
+{
+    let mut v = long_mark_room();
+    let mut counts = long_counters();
     fill_in(p, n, duals, terms, r, &mut v, &mut counts, m);
 }
 
@@ -252,8 +318,8 @@ pub fn fill(p: u8, n: usize, duals: usize, terms: &[u16], r: &[u8], m: &mut [u16
     ensures { (b : ℕ → ℕ → ℕ) → TermsOf (stride n) p n duals b terms.now → m.new ≡ counted p n b duals (at n r.now) }
 {
     if n < BLOCK {
-        fill_with::<MARKS, COUNTERS>(p, n, duals, terms, r, m);
+        fill_short(p, n, duals, terms, r, m);
     } else {
-        fill_with::<LONG_MARKS, LONG_COUNTERS>(p, n, duals, terms, r, m);
+        fill_long(p, n, duals, terms, r, m);
     }
 }

@@ -13,12 +13,26 @@ ghost use Rattle.matrix_scatter.specs.Scatter.{Countable, terms_add, RowGathered
 ghost use Rattle.matrix_scatter.specs.Fill.{Cleared, Scattering, Scattered};
 
 use matrix_terms::{TERMS_AT, WEIGHT_AT};
-use sizes::{BLOCK, EIGHT, SPAN, STRIDE, SYMBOLS, TABLE};
+use sizes::{BLOCK, SPAN, STRIDE, SYMBOLS};
 
 // The counters that a room has where they are few.
 const FEW_COUNTERS: usize = 3072;
 // And where they are many.
 const COUNTERS: usize = 12288;
+
+// Counters, where they are few.
+fn small_room() -> [u16; FEW_COUNTERS]
+    ensures { (3072 ≡ length result) × ((k : ℕ) → place result k ≡ 0) }
+{
+    [0; FEW_COUNTERS]
+}
+
+// Counters, where they are many.
+fn large_room() -> [u16; COUNTERS]
+    ensures { (12288 ≡ length result) × ((k : ℕ) → place result k ≡ 0) }
+{
+    [0; COUNTERS]
+}
 
 // Where the counters of each symbol's row start.
 fn row_starts(p: u8, n: usize, terms: &[u16]) -> [u16; SYMBOLS]
@@ -29,8 +43,10 @@ fn row_starts(p: u8, n: usize, terms: &[u16]) -> [u16; SYMBOLS]
     let width = (n + 1) as u16;
     let mut out = [0u16; SYMBOLS];
     out[0] = 2 * ((q - 1) as u16) * width;
-    for c in 1..q {
+    let mut c = 1;
+    while c < q {
         out[c] = terms[c] * width;
+        c += 1;
     }
     out
 }
@@ -40,10 +56,12 @@ fn offsets(n: usize, starts: [u16; SYMBOLS], w: &[u8], out: &mut [u16])
     requires { (n ≤ 255) × (n ≤ length w.now) × (n + n ≤ length out.old) × Started n starts w.now }
     ensures { Offsets n starts w.now out.old out.new }
 {
-    for j in 0..n {
+    let mut j = 0;
+    while j < n {
         let to = starts[w[j] as usize] + (j as u16);
         out[j] = to;
         out[n + j] = to + (n as u16);
+        j += 1;
     }
 }
 
@@ -88,8 +106,10 @@ fn count_cells(n: usize, cells: &[u16], h: usize, base: usize, counts: &mut [u16
     requires { (n ≤ 255) × ((n + 1) % 8 ≡ 0) × Within cells.now h base (n + 1) counts.old 65200 }
     ensures { counts.new ≡ raised counts.old (λ k. total (n + 1) (cell_adds cells.now h base k)) }
 {
-    for j in (0..n).step_by(EIGHT) {
+    let mut j = 0;
+    while j < n {
         count_eight(cells, h + j, base, counts);
+        j += 8;
     }
 }
 
@@ -102,12 +122,14 @@ fn count_dual(l: usize, p: u8, n: usize, cells: &[u16], terms: &[u16], counts: &
     let weight = terms[WEIGHT_AT] as usize;
     let from = TERMS_AT + BLOCK * sizes::blocks(n) * l;
     let shift = sizes::shift(n);
-    for i in 0..weight {
+    let mut i = 0;
+    while i < weight {
         let t = terms[from + i] as usize;
         let log = t >> shift;
         let h = t - (log << shift);
         let base = (last - log) * (n + 1) - h;
         count_cells(n, cells, h, base, counts);
+        i += 1;
     }
 }
 
@@ -116,8 +138,10 @@ fn gather_row(n: usize, from: usize, low: usize, high: usize, counts: &[u16], m:
     requires { (from + n ≤ length m.old) × (low + n ≤ length counts.now) × (high + n ≤ length counts.now) × ((k : ℕ) → place counts.now k ≤ 8160) }
     ensures { RowGathered n from low high counts.now m.old m.new }
 {
-    for j in 0..n {
+    let mut j = 0;
+    while j < n {
         m[from + j] = counts[low + j] + counts[high + j];
+        j += 1;
     }
 }
 
@@ -127,9 +151,11 @@ fn gather(p: u8, n: usize, terms: &[u16], counts: &[u16], m: &mut [u16])
     ensures { Gathered p n terms.now counts.now m.old m.new }
 {
     let q = sizes::wide(field::order(p));
-    for i in 1..q {
+    let mut i = 1;
+    while i < q {
         let e = terms[i] as usize;
         gather_row(n, i * n, e * (n + 1), (e + (q - 1)) * (n + 1), counts, m);
+        i += 1;
     }
 }
 
@@ -139,14 +165,16 @@ fn count_duals(p: u8, n: usize, duals: usize, terms: &[u16], r: &[u8], counts: &
     ensures { Scattered (stride n) p n duals terms.now r.now counts.new }
 {
     let starts = row_starts(p, n, terms);
-    let mut t = [0u8; TABLE];
+    let mut t = word_table::table_room();
     word_table::tabulate(p, n, r, 0, &mut t);
     let mut w = [0u8; SPAN];
     let mut cells = [0u16; STRIDE];
-    for l in 0..duals {
+    let mut l = 0;
+    while l < duals {
         matrix_terms::product(l, p, n, duals, terms, &t, &mut w);
         offsets(n, starts, &w, &mut cells);
         count_dual(l, p, n, &cells, terms, counts);
+        l += 1;
     }
 }
 
@@ -168,19 +196,21 @@ fn fill_by(
     matrix_terms::row_zero(p, n, (duals as u16) * terms[WEIGHT_AT], m);
 }
 
-// Fills the matrix with so many counters: to clear more costs time.
-fn fill_with<const COUNTERS: usize>(
-    p: u8,
-    n: usize,
-    duals: usize,
-    terms: &[u16],
-    r: &[u8],
-    m: &mut [u16],
-)
-    requires { Filling (stride n) p n duals terms.now r.now m.old × ((n + 1) % 8 ≡ 0) × ((3 * (2 ^ p - 1) + 1) * (n + 1) ≤ COUNTERS) }
+// Fills the matrix where counters are few.
+fn fill_few(p: u8, n: usize, duals: usize, terms: &[u16], r: &[u8], m: &mut [u16])
+    requires { Filling (stride n) p n duals terms.now r.now m.old × ((n + 1) % 8 ≡ 0) × ((3 * (2 ^ p - 1) + 1) * (n + 1) ≤ 3072) }
     ensures { (b : ℕ → ℕ → ℕ) → TermsOf (stride n) p n duals b terms.now → m.new ≡ counted p n b duals (at n r.now) }
 {
-    let mut counts = [0u16; COUNTERS];
+    let mut counts = small_room();
+    fill_by(p, n, duals, terms, r, &mut counts, m);
+}
+
+// Fills the matrix where counters are many.
+fn fill_many(p: u8, n: usize, duals: usize, terms: &[u16], r: &[u8], m: &mut [u16])
+    requires { Filling (stride n) p n duals terms.now r.now m.old × ((n + 1) % 8 ≡ 0) }
+    ensures { (b : ℕ → ℕ → ℕ) → TermsOf (stride n) p n duals b terms.now → m.new ≡ counted p n b duals (at n r.now) }
+{
+    let mut counts = large_room();
     fill_by(p, n, duals, terms, r, &mut counts, m);
 }
 
@@ -191,8 +221,8 @@ pub fn fill(p: u8, n: usize, duals: usize, terms: &[u16], r: &[u8], m: &mut [u16
 {
     let rows = 3 * (sizes::wide(field::order(p)) - 1) + 1;
     if rows * (n + 1) <= FEW_COUNTERS {
-        fill_with::<FEW_COUNTERS>(p, n, duals, terms, r, m);
+        fill_few(p, n, duals, terms, r, m);
     } else {
-        fill_with::<COUNTERS>(p, n, duals, terms, r, m);
+        fill_many(p, n, duals, terms, r, m);
     }
 }

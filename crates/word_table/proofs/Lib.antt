@@ -1,5 +1,4 @@
 pub mod Window
-pub mod Halves
 pub mod Rows
 pub mod Tables
 pub mod Sums

@@ -2,6 +2,7 @@
 -- Assumes nothing.
 use mathlib.Core.Path.{◌≡◌, refl, sym, ◌∙◌}
 use mathlib.Core.Bool.{Bool, true, false, true≢false, cond}
+use native.Mathlib.Omega.{arith}
 use Rattle.book.proofs.Rooms.{few_room, any_room}
 use Rattle.book.proofs.check.Goals as goal
 
@@ -12,15 +13,8 @@ both false few e = (e, refl)
 
 pub check_in-requires : goal.check_in-requires
 check_in-requires c =
-    let s = c in
-    let small = both _ _ (sym s.small_table.ensures ∙ s.if-small_table.true) in
-    few_room _ small.0 small.1 c.few_table_room-t.ensures
+    let small = both _ _ (sym c.small_table.ensures ∙ c.if-small_table.true) in
+    (few_room _ small.0 small.1 refl, omega arith)
 
-pub returns-then-small_table : goal.returns-then-small_table
-returns-then-small_table c = c.check_in.ensures
-
-pub check_in-requires-2 : goal.check_in-requires-2
-check_in-requires-2 c = any_room _ c.table_room-t.ensures
-
-pub returns : goal.returns
-returns c = c.check_in-2.ensures
+pub check_in-requires-else-small_table : goal.check_in-requires-else-small_table
+check_in-requires-else-small_table c = (any_room _ refl, omega arith)

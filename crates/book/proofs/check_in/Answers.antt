@@ -1,22 +1,23 @@
--- `book::check_in` meets its contract: the answer of opening the book tells which it is.
+-- `book::check_in` meets its contract.
 -- Assumes nothing.
+use Prim.Native.Nat.{ℕ}
 use native.Mathlib.Omega.{arith}
-use Rattle.book.proofs.Answering.{opens_open, opens_refused, duals_high, counts_duals, tells_number}
+use lib.ListN.{length-replicate}
+use Rattle.std.proofs.lemmas.Result.{err_from_is_err_and}
+use Rattle.refusal.proofs.Numbers.{refused_is}
+use Rattle.book.proofs.Answering.{duals_high, counts_duals}
 use Rattle.book.proofs.check_in.Goals as goal
 
-pub returns-in-Open : goal.returns-in-Open
-returns-in-Open c =
-    let o = c in
-    counts_duals (opens_open _ _ _ o.open-opened.ensures.0 o.in-Open.is).0
+pub open-requires : goal.open-requires
+open-requires g c = omega (arith, c.requires.0, length-replicate {A = ℕ} g.row.TABLE 0)
 
-pub returns-in-Refused : goal.returns-in-Refused
-returns-in-Refused c =
-    let o = c in
-    let h = opens_refused _ _ _ o.open-opened.ensures.0 o.in-Refused.is in
-    tells_number _ h.0 h.1
+pub returns-in_err-c : goal.returns-in_err-c
+returns-in_err-c g c =
+    let p = err_from_is_err_and c.from_residual.result c.from_residual.ensures.1 in
+    rw (p.1, p.2) (refused_is _ _ _ c.in_err-c.ensures.0.0)
 
 pub overflow_cast-result : goal.overflow_cast-result
-overflow_cast-result c =
-    let o = c in
-    let d = (opens_open _ _ _ o.open-opened.ensures.0 o.in-Open.is).0 in
-    omega (arith, duals_high d)
+overflow_cast-result g c = omega (arith, duals_high c.in_ok-c.ensures.0.0)
+
+pub returns : goal.returns
+returns g c = counts_duals c.in_ok-c.ensures.0.0

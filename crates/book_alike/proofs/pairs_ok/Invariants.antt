@@ -9,3 +9,6 @@ use Rattle.book_alike.proofs.pairs_ok.Given as goal
 
 abbrev pub invariant-loop-l : goal.invariant-loop-l
 invariant-loop-l now = (length now.t ≡ length now.initial.t) × Passing now.duals (differ now.p now.n now.book) now.l
+
+abbrev pub decreases-loop-l : goal.decreases-loop-l
+decreases-loop-l now = now.duals - now.l

@@ -8,3 +8,6 @@ use Rattle.book_duals.proofs.join_block.Given as goal
 
 abbrev pub invariant-loop-j : goal.invariant-loop-j
 invariant-loop-j l = (l.j ≤ 64) × Window l.at l.j (λ j. bit_or (place l.initial.left (l.at + j)) (place l.word (l.at + j))) l.initial.left l.left
+
+abbrev pub decreases-loop-j : goal.decreases-loop-j
+decreases-loop-j l = 64 - l.j

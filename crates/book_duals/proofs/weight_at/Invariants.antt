@@ -6,3 +6,6 @@ use Rattle.book_duals.proofs.weight_at.Given as goal
 
 abbrev pub invariant-loop-b : goal.invariant-loop-b
 invariant-loop-b l = Weighed l.book l.start l.blocks l.b l.count
+
+abbrev pub decreases-loop-b : goal.decreases-loop-b
+decreases-loop-b l = l.blocks - l.b

@@ -8,3 +8,6 @@ use Rattle.book_duals.proofs.weight_block.Given as goal
 
 abbrev pub invariant-loop-j : goal.invariant-loop-j
 invariant-loop-j l = Counted 64 (λ j. nonzero (place l.book (l.from + j))) l.j l.count
+
+abbrev pub decreases-loop-j : goal.decreases-loop-j
+decreases-loop-j l = 64 - l.j

@@ -8,3 +8,6 @@ use Rattle.book_duals.proofs.weights_ok.Given as goal
 
 abbrev pub invariant-loop-l : goal.invariant-loop-l
 invariant-loop-l l = (l.l ≤ l.duals) × (l.ok ≡ all l.l (weight_ok l.n l.book))
+
+abbrev pub decreases-loop-l : goal.decreases-loop-l
+decreases-loop-l l = l.duals - l.l

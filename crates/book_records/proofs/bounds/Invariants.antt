@@ -9,6 +9,3 @@ use Rattle.book_records.proofs.bounds.Given as goal
 
 abbrev pub invariant-loop-j : goal.invariant-loop-j
 invariant-loop-j l = (1 ≤ l.j) × (l.j ≤ l.n + 1) × Over l.j (λ k. cond (eqb k 0) 255 l.q) (replicate 256 1) l.out
-
-abbrev pub decreases-loop-j : goal.decreases-loop-j
-decreases-loop-j l = l.n + 1 - l.j

@@ -1,69 +1,40 @@
 -- `book_records::refusal` meets its contract: each return rewrites with the tests that led there.
 -- Assumes nothing.
+use mathlib.Core.Path.{sym}
+use Rattle.spec_range.proofs.Tests.{true_test}
 use Rattle.spec_book.proofs.Accepting.{own_length, whole}
 use Rattle.book_records.specs.Records.{records_refusal}
-use Rattle.book_records.proofs.Tested.{failed, passed, held}
-use Rattle.std.proofs.lemmas.Bool.{not_from_true, not_from_false}
 use Rattle.book_records.proofs.refusal.Goals as goal
 
 pub returns-then-not-length_ok : goal.returns-then-not-length_ok
 unfolding records_refusal
-returns-then-not-length_ok c = rw (failed c.length_ok.ensures (not_from_false _ c.if-not-length_ok.true))
+returns-then-not-length_ok c = rw (sym c.if-not-length_ok.ensures)
 
 pub kinds_ok-requires : goal.kinds_ok-requires
-kinds_ok-requires c = held c.length_ok.ensures (not_from_true _ c.if-not-length_ok.false)
+kinds_ok-requires c = true_test _ (sym c.if-not-length_ok.ensures)
 
 pub returns-then-not-kinds_ok : goal.returns-then-not-kinds_ok
 unfolding records_refusal
-returns-then-not-kinds_ok c =
-    let s = c in
-    rw (passed s.length_ok.ensures (not_from_true _ s.if-not-length_ok.false), failed c.kinds_ok.ensures (not_from_false _ c.if-not-kinds_ok.true))
+returns-then-not-kinds_ok c = rw (sym c.if-not-length_ok.ensures, sym c.if-not-kinds_ok.ensures)
 
 pub sizes_ok-requires : goal.sizes_ok-requires
-sizes_ok-requires c =
-    let s = c in
-    whole _ (own_length _ (held s.length_ok.ensures (not_from_true _ s.if-not-length_ok.false)) (held c.kinds_ok.ensures (not_from_true _ c.if-not-kinds_ok.false)))
+sizes_ok-requires c = whole _ (own_length _ (true_test _ (sym c.if-not-length_ok.ensures)) (true_test _ (sym c.if-not-kinds_ok.ensures)))
 
 pub returns-then-not-sizes_ok : goal.returns-then-not-sizes_ok
 unfolding records_refusal
-returns-then-not-sizes_ok c =
-    let t = c in
-    let s = t in
-    rw (
-      passed s.length_ok.ensures (not_from_true _ s.if-not-length_ok.false),
-      passed t.kinds_ok.ensures (not_from_true _ t.if-not-kinds_ok.false),
-      failed c.sizes_ok.ensures (not_from_false _ c.if-not-sizes_ok.true),
-    )
+returns-then-not-sizes_ok c = rw (sym c.if-not-length_ok.ensures, sym c.if-not-kinds_ok.ensures, sym c.if-not-sizes_ok.ensures)
 
 pub symbols_ok-requires : goal.symbols_ok-requires
 symbols_ok-requires c =
-    let t = c in
-    let s = t in
-    let k = held t.kinds_ok.ensures (not_from_true _ t.if-not-kinds_ok.false) in
-    (whole _ (own_length _ (held s.length_ok.ensures (not_from_true _ s.if-not-length_ok.false)) k), k, held c.sizes_ok.ensures (not_from_true _ c.if-not-sizes_ok.false))
+    let kinds = true_test _ (sym c.if-not-kinds_ok.ensures) in
+    (whole _ (own_length _ (true_test _ (sym c.if-not-length_ok.ensures)) kinds), kinds, true_test _ (sym c.if-not-sizes_ok.ensures))
 
 pub returns-then-not-symbols_ok : goal.returns-then-not-symbols_ok
 unfolding records_refusal
 returns-then-not-symbols_ok c =
-    let u = c in
-    let t = u in
-    let s = t in
-    rw (
-      passed s.length_ok.ensures (not_from_true _ s.if-not-length_ok.false),
-      passed t.kinds_ok.ensures (not_from_true _ t.if-not-kinds_ok.false),
-      passed u.sizes_ok.ensures (not_from_true _ u.if-not-sizes_ok.false),
-      failed c.symbols_ok.ensures (not_from_false _ c.if-not-symbols_ok.true),
-    )
+    rw (sym c.if-not-length_ok.ensures, sym c.if-not-kinds_ok.ensures, sym c.if-not-sizes_ok.ensures, sym c.if-not-symbols_ok.ensures)
 
 pub returns : goal.returns
 unfolding records_refusal
 returns c =
-    let u = c in
-    let t = u in
-    let s = t in
-    rw (
-      passed s.length_ok.ensures (not_from_true _ s.if-not-length_ok.false),
-      passed t.kinds_ok.ensures (not_from_true _ t.if-not-kinds_ok.false),
-      passed u.sizes_ok.ensures (not_from_true _ u.if-not-sizes_ok.false),
-      passed c.symbols_ok.ensures (not_from_true _ c.if-not-symbols_ok.false),
-    )
+    rw (sym c.if-not-length_ok.ensures, sym c.if-not-kinds_ok.ensures, sym c.if-not-sizes_ok.ensures, sym c.if-not-symbols_ok.ensures)

@@ -6,3 +6,6 @@ use Rattle.matrix.proofs.clear.Given as goal
 
 abbrev pub invariant-loop-k : goal.invariant-loop-k
 invariant-loop-k l = (l.k ≤ l.size) × Over l.k (λ k. 0) l.initial.m l.m
+
+abbrev pub decreases-loop-k : goal.decreases-loop-k
+decreases-loop-k l = l.size - l.k

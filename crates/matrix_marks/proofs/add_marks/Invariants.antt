@@ -7,3 +7,6 @@ use Rattle.matrix_marks.proofs.add_marks.Given as goal
 
 abbrev pub invariant-loop-j : goal.invariant-loop-j
 invariant-loop-j l = (l.j ≤ 64) × Over l.j (λ j. place l.initial.row j + place l.v (l.from + j)) l.initial.row l.row
+
+abbrev pub decreases-loop-j : goal.decreases-loop-j
+decreases-loop-j l = 64 - l.j

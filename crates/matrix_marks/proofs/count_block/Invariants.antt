@@ -6,3 +6,6 @@ use Rattle.matrix_marks.proofs.count_block.Given as goal
 
 abbrev pub invariant-loop-i : goal.invariant-loop-i
 invariant-loop-i l = Summing 64 l.v l.start l.terms l.from l.weight l.i l.row
+
+abbrev pub decreases-loop-i : goal.decreases-loop-i
+decreases-loop-i l = l.weight - l.i

@@ -12,3 +12,6 @@ abbrev pub invariant-loop-l : goal.invariant-loop-l
 invariant-loop-l s =
     (s.l ≤ s.duals) × (length s.w ≡ 256) × (length s.v ≡ length s.initial.v) × (length s.counts ≡ length s.initial.counts)
     × Tallied (stride s.n) (span s.n) s.p s.n s.duals s.terms (word_of (stride s.n) s.n s.t) s.l s.counts
+
+abbrev pub decreases-loop-l : goal.decreases-loop-l
+decreases-loop-l s = s.duals - s.l

@@ -9,3 +9,6 @@ use Rattle.matrix_marks.proofs.count_row.Given as goal
 abbrev pub invariant-loop-b : goal.invariant-loop-b
 invariant-loop-b l =
     (l.b ≤ l.blocks) × Window l.to (64 * l.b) (λ j. place l.initial.counts (l.to + j) + marks_of l.v l.start l.terms l.from l.weight j) l.initial.counts l.counts
+
+abbrev pub decreases-loop-b : goal.decreases-loop-b
+decreases-loop-b l = l.blocks - l.b

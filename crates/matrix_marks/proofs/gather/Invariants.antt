@@ -6,3 +6,6 @@ use Rattle.matrix_marks.proofs.gather.Given as goal
 
 abbrev pub invariant-loop-i : goal.invariant-loop-i
 invariant-loop-i l = Gathering (64 * l.blocks) l.n l.terms l.counts l.initial.m l.m l.i
+
+abbrev pub decreases-loop-i : goal.decreases-loop-i
+decreases-loop-i l = l.q - l.i

@@ -9,3 +9,6 @@ use Rattle.matrix_marks.proofs.mark.Given as goal
 
 abbrev pub invariant-loop-b : goal.invariant-loop-b
 invariant-loop-b l = (l.b ≤ l.blocks) × Window l.to (64 * l.b) (λ j. indicator (eqb (place l.w j) l.s)) l.initial.v l.v
+
+abbrev pub decreases-loop-b : goal.decreases-loop-b
+decreases-loop-b l = l.blocks - l.b

@@ -7,3 +7,6 @@ use Rattle.matrix_marks.proofs.mark_rows.Given as goal
 
 abbrev pub invariant-loop-e : goal.invariant-loop-e
 invariant-loop-e l = Marking (128 * l.blocks) (64 * l.blocks) l.n l.rows (powers_in l.terms) l.w l.initial.v l.v l.e
+
+abbrev pub decreases-loop-e : goal.decreases-loop-e
+decreases-loop-e l = l.rows - l.e

@@ -9,3 +9,6 @@ use Rattle.matrix_marks.proofs.marked.Given as goal
 
 abbrev pub invariant-loop-j : goal.invariant-loop-j
 invariant-loop-j l = (l.j ≤ 64) × Held 64 l.j (λ j. indicator (eqb (place l.w j) l.s)) l.out
+
+abbrev pub decreases-loop-j : goal.decreases-loop-j
+decreases-loop-j l = 64 - l.j

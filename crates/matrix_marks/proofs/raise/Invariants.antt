@@ -7,3 +7,6 @@ use Rattle.matrix_marks.proofs.raise.Given as goal
 
 abbrev pub invariant-loop-j : goal.invariant-loop-j
 invariant-loop-j l = (l.j ≤ 64) × Window l.to l.j (λ j. place l.initial.counts (l.to + j) + place l.row j) l.initial.counts l.counts
+
+abbrev pub decreases-loop-j : goal.decreases-loop-j
+decreases-loop-j l = 64 - l.j

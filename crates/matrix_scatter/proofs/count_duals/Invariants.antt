@@ -10,3 +10,6 @@ use Rattle.matrix_scatter.proofs.count_duals.Given as goal
 abbrev pub invariant-loop-l : goal.invariant-loop-l
 invariant-loop-l l =
     (length l.w ≡ 256) × (length l.cells ≡ 512) × CountedTo (stride l.n) l.p l.n l.duals l.terms l.starts l.t l.initial.counts l.counts l.l
+
+abbrev pub decreases-loop-l : goal.decreases-loop-l
+decreases-loop-l l = l.duals - l.l

@@ -7,3 +7,6 @@ use Rattle.matrix_scatter.proofs.gather.Given as goal
 
 abbrev pub invariant-loop-i : goal.invariant-loop-i
 invariant-loop-i l = (l.q ≡ 2 ^ l.p) × Gathering l.p l.n l.terms l.counts l.initial.m l.m l.i
+
+abbrev pub decreases-loop-i : goal.decreases-loop-i
+decreases-loop-i l = l.q - l.i

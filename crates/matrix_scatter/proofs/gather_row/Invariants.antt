@@ -7,3 +7,6 @@ use Rattle.matrix_scatter.proofs.gather_row.Given as goal
 
 abbrev pub invariant-loop-j : goal.invariant-loop-j
 invariant-loop-j l = (l.j ≤ l.n) × Window l.from l.j (λ j. place l.counts (l.low + j) + place l.counts (l.high + j)) l.initial.m l.m
+
+abbrev pub decreases-loop-j : goal.decreases-loop-j
+decreases-loop-j l = l.n - l.j

@@ -7,3 +7,6 @@ use Rattle.matrix_terms.proofs.list.Given as goal
 
 abbrev pub invariant-loop-l : goal.invariant-loop-l
 invariant-loop-l l = ListedTo (stride l.n) l.book l.n l.duals l.initial.terms l.weight l.l l.terms
+
+abbrev pub decreases-loop-l : goal.decreases-loop-l
+decreases-loop-l l = l.duals - l.l

@@ -8,3 +8,6 @@ use Rattle.matrix_terms.proofs.list_dual.Given as goal
 abbrev pub invariant-loop-h : goal.invariant-loop-h
 invariant-loop-h l =
     Written l.stride l.n (λ j. place l.book (l.start + j)) l.from l.initial.terms l.count l.h l.terms
+
+abbrev pub decreases-loop-h : goal.decreases-loop-h
+decreases-loop-h l = l.n - l.h

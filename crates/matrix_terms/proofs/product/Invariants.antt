@@ -7,3 +7,6 @@ use Rattle.matrix_terms.proofs.product.Given as goal
 
 abbrev pub invariant-loop-b : goal.invariant-loop-b
 invariant-loop-b l = (l.b ≤ l.blocks) × Window 0 (64 * l.b) (terms_sum (128 * l.blocks) l.n l.terms l.from l.t) l.initial.w l.w
+
+abbrev pub decreases-loop-b : goal.decreases-loop-b
+decreases-loop-b l = l.blocks - l.b

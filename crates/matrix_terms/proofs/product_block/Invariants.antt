@@ -6,3 +6,6 @@ use Rattle.matrix_terms.proofs.product_block.Given as goal
 
 abbrev pub invariant-loop-i : goal.invariant-loop-i
 invariant-loop-i l = Summing (128 * l.blocks) l.n l.terms l.from l.t l.at l.i l.sum
+
+abbrev pub decreases-loop-i : goal.decreases-loop-i
+decreases-loop-i l = l.weight - l.i

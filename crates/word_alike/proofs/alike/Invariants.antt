@@ -9,3 +9,6 @@ use Rattle.word_alike.proofs.alike.Given as goal
 
 abbrev pub invariant-loop-k : goal.invariant-loop-k
 invariant-loop-k l = Passing l.n (λ k. not (turn_ok (stride l.n) l.n l.d k l.t)) l.k
+
+abbrev pub decreases-loop-k : goal.decreases-loop-k
+decreases-loop-k l = l.n - l.k

@@ -10,3 +10,6 @@ use Rattle.word_alike.proofs.marks.Given as goal
 abbrev pub invariant-loop-j : goal.invariant-loop-j
 invariant-loop-j l =
     (l.j ≤ 64) × Held 64 l.j (λ j. bit_and (mark_at l.n (λ j. place l.rows (l.from + j)) j) (place l.inside (l.at + j))) l.out
+
+abbrev pub decreases-loop-j : goal.decreases-loop-j
+decreases-loop-j l = 64 - l.j

@@ -9,3 +9,6 @@ use Rattle.word_alike.proofs.same_row.Given as goal
 
 abbrev pub invariant-loop-j : goal.invariant-loop-j
 invariant-loop-j l = Counted l.n (λ j. not (eqb (place l.d (l.k + j)) (place l.t (l.from + j)))) l.j l.found
+
+abbrev pub decreases-loop-j : goal.decreases-loop-j
+decreases-loop-j l = l.n - l.j

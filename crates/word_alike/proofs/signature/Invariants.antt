@@ -7,3 +7,6 @@ use Rattle.word_alike.proofs.signature.Given as goal
 
 abbrev pub invariant-loop-b : goal.invariant-loop-b
 invariant-loop-b l = (l.b ≤ l.blocks) × SignedTo l.n (λ j. place l.rows (l.from + j)) l.inside l.b l.sum
+
+abbrev pub decreases-loop-b : goal.decreases-loop-b
+decreases-loop-b l = l.blocks - l.b

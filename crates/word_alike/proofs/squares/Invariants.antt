@@ -6,3 +6,6 @@ use Rattle.word_alike.proofs.squares.Given as goal
 
 abbrev pub invariant-loop-j : goal.invariant-loop-j
 invariant-loop-j l = (l.j ≤ 64) × SquaresTo l.m l.before l.j l.sum
+
+abbrev pub decreases-loop-j : goal.decreases-loop-j
+decreases-loop-j l = 64 - l.j

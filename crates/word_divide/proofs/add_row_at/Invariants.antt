@@ -6,3 +6,6 @@ use Rattle.word_divide.proofs.add_row_at.Given as goal
 
 abbrev pub invariant-loop-b : goal.invariant-loop-b
 invariant-loop-b l = (l.b ≤ l.blocks) × AddedAt l.t l.from l.i (64 * l.b) l.initial.v l.v
+
+abbrev pub decreases-loop-b : goal.decreases-loop-b
+decreases-loop-b l = l.blocks - l.b

@@ -7,3 +7,6 @@ use Rattle.word_divide.proofs.copy.Given as goal
 
 abbrev pub invariant-loop-j : goal.invariant-loop-j
 invariant-loop-j l = (l.j ≤ l.n) × Over l.j (place l.w) l.initial.v l.v
+
+abbrev pub decreases-loop-j : goal.decreases-loop-j
+decreases-loop-j l = l.n - l.j

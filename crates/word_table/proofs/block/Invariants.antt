@@ -7,3 +7,6 @@ use Rattle.word_table.proofs.block.Given as goal
 
 abbrev pub invariant-loop-j : goal.invariant-loop-j
 invariant-loop-j l = (l.j ≤ 64) × Held 64 l.j (λ j. place l.s (l.from + j)) l.out
+
+abbrev pub decreases-loop-j : goal.decreases-loop-j
+decreases-loop-j l = 64 - l.j

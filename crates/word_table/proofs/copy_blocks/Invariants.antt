@@ -7,3 +7,6 @@ use Rattle.word_table.proofs.copy_blocks.Given as goal
 
 abbrev pub invariant-loop-b : goal.invariant-loop-b
 invariant-loop-b l = (l.b ≤ l.count) × Window l.to (64 * l.b) (λ j. place l.s (l.from + j)) l.initial.t l.t
+
+abbrev pub decreases-loop-b : goal.decreases-loop-b
+decreases-loop-b l = l.count - l.b

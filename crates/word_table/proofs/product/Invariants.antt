@@ -9,3 +9,6 @@ use Rattle.word_table.proofs.product.Given as goal
 abbrev pub invariant-loop-b : goal.invariant-loop-b
 invariant-loop-b l =
     (l.b ≤ l.blocks) × Window 0 (64 * l.b) (turned_sum (128 * l.blocks) l.n l.count (λ u. place l.symbols (l.start + u)) l.t) l.initial.out l.out
+
+abbrev pub decreases-loop-b : goal.decreases-loop-b
+decreases-loop-b l = l.blocks - l.b

@@ -7,3 +7,6 @@ use Rattle.word_table.proofs.product_block.Given as goal
 
 abbrev pub invariant-loop-u : goal.invariant-loop-u
 invariant-loop-u l = Summing (128 * l.blocks) 64 l.n l.count l.at (λ u. place l.symbols (l.start + u)) l.t l.u l.sum
+
+abbrev pub decreases-loop-u : goal.decreases-loop-u
+decreases-loop-u l = l.count - l.u

@@ -7,3 +7,6 @@ use Rattle.word_table.proofs.put_block.Given as goal
 
 abbrev pub invariant-loop-j : goal.invariant-loop-j
 invariant-loop-j l = (l.j ≤ 64) × Window l.to l.j (place l.b) l.initial.t l.t
+
+abbrev pub decreases-loop-j : goal.decreases-loop-j
+decreases-loop-j l = 64 - l.j

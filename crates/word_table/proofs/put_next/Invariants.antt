@@ -9,3 +9,6 @@ use Rattle.word_table.proofs.put_next.Given as goal
 abbrev pub invariant-loop-b : goal.invariant-loop-b
 invariant-loop-b l =
     (l.b ≤ 2 * l.blocks) × Window l.to (64 * l.b) (λ j. bit_xor (entry (128 * l.blocks) l.initial.t (2 * l.c) j) (entry (128 * l.blocks) l.initial.t 1 j)) l.initial.t l.t
+
+abbrev pub decreases-loop-b : goal.decreases-loop-b
+decreases-loop-b l = 2 * l.blocks - l.b

@@ -8,3 +8,6 @@ use Rattle.word_table.proofs.put_times_x.Given as goal
 
 abbrev pub invariant-loop-j : goal.invariant-loop-j
 invariant-loop-j l = (l.j ≤ 64) × Window l.to l.j (λ j. times_x l.p (place l.row j)) l.initial.t l.t
+
+abbrev pub decreases-loop-j : goal.decreases-loop-j
+decreases-loop-j l = 64 - l.j

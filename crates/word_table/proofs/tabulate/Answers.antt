@@ -8,7 +8,6 @@ use Rattle.sizes.specs.Blocks.{stride}
 use Rattle.sizes.proofs.Lengths.{blocks_low, blocks_high, blocks_fit}
 use Rattle.spec_field.proofs.Doubling.{next_below}
 use Rattle.word_table.proofs.Rows.{rows_apart, whole, as_whole, rows_first, rows_stored, rows_double, rows_end}
-use Rattle.word_table.proofs.Halves.{halves_reached}
 use borrow.Author.Rules.{rules}
 use Rattle.word_table.proofs.tabulate.Goals as goal
 
@@ -93,6 +92,5 @@ returns c =
     let wide = put in
     let s = wide.requires in
     let first = put.put_first_rows.ensures in
-    let q = wide.wide-q.ensures ∙ wide.order.ensures in
     rows_end s.0 first (whole first s.2) (omega (arith, blocks_fit s.0.n_high)) now.invariant.3
-    (halves_reached _ _ s.0.p_low (omega (arith, q, c.loop-c-test.false))) (as_whole _) s.3 (now.invariant.2 ∙ first.long)
+    (omega (arith, wide.wide-q.ensures ∙ wide.order.ensures, c.loop-c-test.false)) (as_whole _) s.3 (now.invariant.2 ∙ first.long)

@@ -9,3 +9,6 @@ use Rattle.book_alike.proofs.signature.all_differ.Given as goal
 
 abbrev pub invariant-loop-l : goal.invariant-loop-l
 invariant-loop-l now = (now.l ≤ now.count) × (now.found ≡ total now.l (λ l. times_of now.s (place now.s l))) × (now.found ≤ now.l * 32)
+
+abbrev pub decreases-loop-l : goal.decreases-loop-l
+decreases-loop-l now = now.count - now.l

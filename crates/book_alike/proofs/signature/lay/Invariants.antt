@@ -6,3 +6,6 @@ use Rattle.book_alike.proofs.signature.lay.Given as goal
 
 abbrev pub invariant-loop-i : goal.invariant-loop-i
 invariant-loop-i s = (s.i ≤ s.k) × Rows s.stride s.book s.n s.l s.i s.initial.rows s.rows
+
+abbrev pub decreases-loop-i : goal.decreases-loop-i
+decreases-loop-i s = s.k - s.i

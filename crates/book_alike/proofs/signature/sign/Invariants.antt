@@ -9,3 +9,6 @@ use Rattle.book_alike.proofs.signature.sign.Given as goal
 abbrev pub invariant-loop-i : goal.invariant-loop-i
 invariant-loop-i s =
     (s.i ≤ s.k) × Window s.l s.i (λ i. signature_of s.n (λ j. place s.rows (128 * s.blocks * i + j))) s.initial.out s.out
+
+abbrev pub decreases-loop-i : goal.decreases-loop-i
+decreases-loop-i s = s.k - s.i

@@ -8,3 +8,6 @@ use Rattle.book_alike.proofs.signature.times.Given as goal
 
 abbrev pub invariant-loop-m : goal.invariant-loop-m
 invariant-loop-m l = Counted 32 (λ m. eqb (place l.s m) l.x) l.m l.found
+
+abbrev pub decreases-loop-m : goal.decreases-loop-m
+decreases-loop-m l = 32 - l.m

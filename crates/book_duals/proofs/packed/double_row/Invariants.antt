@@ -8,3 +8,6 @@ use Rattle.book_duals.proofs.packed.double_row.Given as goal
 
 abbrev pub invariant-loop-b : goal.invariant-loop-b
 invariant-loop-b l = (l.b ≤ 2 * l.blocks) × Window l.to (64 * l.b) (λ j. double_all l.p (entry (128 * l.blocks) l.initial.t l.c j)) l.initial.t l.t
+
+abbrev pub decreases-loop-b : goal.decreases-loop-b
+decreases-loop-b l = 2 * l.blocks - l.b

@@ -6,3 +6,6 @@ use Rattle.book_duals.proofs.packed.packed_block.Given as goal
 
 abbrev pub invariant-loop-i : goal.invariant-loop-i
 invariant-loop-i l = Packing l.p l.book l.l l.k l.at l.out l.shift l.i
+
+abbrev pub decreases-loop-i : goal.decreases-loop-i
+decreases-loop-i l = l.k - l.i

@@ -10,3 +10,6 @@ use Rattle.book_duals.proofs.plain.products_vanish.Given as goal
 abbrev pub invariant-loop-l : goal.invariant-loop-l
 invariant-loop-l l =
     (l.l ≤ l.duals) × (length l.left ≡ 256) × (length l.product ≡ 256) × Joined l.n (dual_product l.p l.n l.book) l.l l.left
+
+abbrev pub decreases-loop-l : goal.decreases-loop-l
+decreases-loop-l l = l.duals - l.l
