@@ -108,24 +108,24 @@ fn go(c: Params, t: &[u8], terms: &[u16], r: Word, m: &mut [u16], rest: &mut [u8
         → Ended bytes (all_rounds bytes (matrix (field_of bytes) (book_of bytes)) (listed bytes r)) result m.new }
 {
     let mut w = r;
-    for before in 0..c.rounds {
+    for made in 0..c.rounds {
         make_matrix(c, terms, w, m);
         let s = round(c, t, w, m, rest);
         let step = s.step;
         let next = s.word;
-        let made = before + 1;
+        let rounds = made + 1;
         match step {
             Step::Empty => {
                 return End {
                     kind: Kind::Stalled,
-                    rounds: made,
+                    rounds,
                     word: r,
                 };
             }
             Step::Reached => {
                 return End {
                     kind: Kind::Mended,
-                    rounds: made,
+                    rounds,
                     word: next,
                 };
             }

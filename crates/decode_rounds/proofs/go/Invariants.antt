@@ -21,6 +21,3 @@ invariant-loop-made l =
     × (length l.rest ≡ length l.initial.rest)
     × Stored l.c.p 255 l.w
     × ((bytes : List ℕ) (h : Prepared bytes l.c l.t l.terms) → Left bytes h.describes.accepted (make bytes) l.made l.r l.w l.m)
-
-abbrev pub decreases-loop-made : goal.decreases-loop-made
-decreases-loop-made l = l.most - l.made
