@@ -6,27 +6,25 @@ use mathlib.Core.List.{List, [], ◌∷◌}
 use Prim.Native.Nat.{ℕ, ◌≤◌, ◌+◌, ◌*◌, ◌^◌, ◌<◌}
 use native.Mathlib.Omega.{arith}
 use lib.Dec.{T, eqb, eqb→eq}
-use lib.ListN.{length}
+use lib.ListN.{length, replicate, length-replicate}
 use lib.Seq.{ext_get_or}
 use Rattle.spec_range.specs.Fold.{indicator}
 use Rattle.spec_range.specs.Table.{table, padded}
 use Rattle.spec_range.proofs.Tests.{and_left, and_right}
 use Rattle.spec_range.proofs.Fold.{fold_cong}
+use Rattle.spec_range.proofs.Loop.{zero_at}
 use Rattle.spec_range.proofs.Table.{table-length, table_at}
 use Rattle.spec_field.specs.Answer.{Answer, answer, done, refused}
-use Rattle.spec_field.proofs.Refusals.{answers_refused, found_first, found_next}
+use Rattle.spec_field.proofs.Refusals.{answers_refused}
 use Rattle.spec_word.specs.Word.{at, distance}
 use Rattle.spec_word.proofs.Place.{at_table}
-use Rattle.sizes.specs.Blocks.{blocks, span}
-use Rattle.sizes.proofs.Lengths.{blocks_high}
+use Rattle.sizes.specs.Blocks.{span}
 use Rattle.word_array.specs.Stored.{place, Stored}
-use Rattle.spec_book.specs.Layout.{is_long, field_of, book_of}
+use Rattle.spec_book.specs.Layout.{field_of, book_of}
 use Rattle.spec_book.specs.Conditions.{refusal, input_refusal}
 use Rattle.spec_operations.specs.Wrote.{Wrote}
 use Rattle.spec_operations.proofs.Wrote.{left_refused, left_done}
-use Rattle.spec_book.proofs.Known.{book_sizes, n_word_length}
-use Rattle.book_layout.proofs.Sized.{short_block}
-use Rattle.matrix_terms.specs.Terms.{unlisted, terms_at, weight_in}
+use Rattle.matrix_terms.specs.Terms.{unlisted, terms_at}
 use Rattle.spec_book.proofs.Inputs.{AcceptedInput, accepted_input}
 use Rattle.book.specs.Params.{Describes}
 use Rattle.book.specs.declared.Params.{Params}
@@ -39,8 +37,11 @@ use Rattle.spec_decoding.proofs.Outcome.{decode-sound}
 use Rattle.spec_operations.specs.Decoding.{matrix_input_refusal, matrix_refusal, matrix_bytes, decode_input_refusal, decode_refusal, decode_bytes, values, Decodes}
 use Rattle.decode_rounds.specs.Kind.{kind_of}
 use Rattle.decode.specs.Decoded.{said}
-use Rattle.decode_rounds.specs.Rounds.{listed, Unlisted, TermsRoom, Ended}
-use Rattle.decode.specs.declared.Decoded.TheVariants.{Answered}
+use Rattle.decode_rounds.specs.Rounds.{listed, RoomsFit, TermsRoom, Ended}
+use Rattle.refusal.specs.declared.Refusal.{Refusal}
+use Rattle.refusal.specs.Number.{number_of}
+use Rattle.refusal.proofs.Numbers.{number-not_zero, first_is, next_is}
+use Rattle.std.specs.Prelude.{Ok}
 use Rattle.decode_rounds.specs.declared.End.{End}
 use Rattle.decode_rounds.proofs.Stepping.{padded_symbols}
 use Rattle.decode_rounds.proofs.Decoding.{loaded_listed}
@@ -58,13 +59,19 @@ module _ (bytes : List ℕ) (c : Params) (d : Describes bytes c) where
   unfolding decode_input_refusal
   decode_number r room entries h hq he = h ∙ rw (hq, he, d.p_is, d.n_is)
 
-  -- ---- a received word for which the number 0 was found, loaded into an array
+  -- ---- a received word that is not refused, loaded into an array
 
-  module _ (received : List ℕ) {number q : ℕ} (exact : Bool) (h : number ≡ input_refusal q (eqb (length received) c.n) exact received) (hq : q ≡ 2 ^ c.p) (z : number ≡ 0) where
+  module _ (received : List ℕ) {q : ℕ} (exact : Bool) (h : 0 ≡ input_refusal q (eqb (length received) c.n) exact received) (hq : q ≡ 2 ^ c.p) where
     pub input : AcceptedInput (2 ^ c.p) (eqb (length received) c.n) exact received
     input =
         accepted_input (2 ^ c.p) (eqb (length received) c.n) exact received
-        (sym (h ∙ ap (λ (x : ℕ). input_refusal x (eqb (length received) c.n) exact received) hq) ∙ z)
+        (sym (h ∙ ap (λ (x : ℕ). input_refusal x (eqb (length received) c.n) exact received) hq))
+
+    -- what the test of both sizes tells
+    pub output_sizes : {room entries : ℕ} → exact ≡ (eqb room c.n && eqb entries (2 ^ c.p * c.n)) → (room ≡ c.n) × (entries ≡ 2 ^ c.p * c.n)
+    output_sizes {room} {entries} e =
+        let t = subst T e input.sizes in
+        (eqb→eq room c.n (and_left (eqb room c.n) (eqb entries (2 ^ c.p * c.n)) t), eqb→eq entries (2 ^ c.p * c.n) (and_right (eqb room c.n) (eqb entries (2 ^ c.p * c.n)) t))
 
     pub input-size : length received ≡ c.n
     input-size = eqb→eq (length received) c.n input.size
@@ -81,41 +88,26 @@ module _ (bytes : List ℕ) (c : Params) (d : Describes bytes c) where
     pub loaded-stored : {r : List ℕ} → r ≡ padded 255 c.n (λ j. place received (0 + j)) → Stored c.p 255 r
     loaded-stored loaded = padded_symbols loaded (λ j l. subst (λ (k : ℕ). place received k < 2 ^ c.p) (omega arith) (input-stored.symbol j l))
 
--- ---- rooms for terms
+-- ---- the room for terms
 
--- the room for short books
-pub short_unlisted : (bytes : List ℕ) → is_long bytes ≡ false → {terms : List ℕ} → (2240 ≡ length terms) × (weight_in terms ≡ 0) → Unlisted bytes terms
-short_unlisted bytes f h =
+-- in a room of zeros nothing is listed
+pub listed_room : {bytes : List ℕ} {terms table : ℕ} → RoomsFit bytes terms table → {c : Params} → Describes bytes c → TermsRoom bytes c (replicate terms 0)
+listed_room {bytes} {terms} h {c} d =
     record {
-      long = λ e.
-          let one : blocks (book_of bytes).n ≡ 1 = ap blocks (n_word_length bytes e) ∙ short_block bytes (book_sizes bytes e) f in
-          omega (arith, h.0, one);
-      none = h.1;
+      long = omega (arith, subst (λ (n : ℕ). terms_at + span n * 32 ≤ terms) (sym d.n_is) (h.terms_fit d.accepted), length-replicate {A = ℕ} terms 0);
+      kept = unlisted (zero_at terms 0);
     }
-
--- and that for any
-pub any_unlisted : (bytes : List ℕ) {terms : List ℕ} → (8384 ≡ length terms) × (weight_in terms ≡ 0) → Unlisted bytes terms
-any_unlisted bytes h = record { long = λ e. omega (arith, h.0, blocks_high (book_of bytes).n); none = h.1 }
-
-pub listed_room : (bytes : List ℕ) {terms : List ℕ} → Unlisted bytes terms → {c : Params} → Describes bytes c → TermsRoom bytes c terms
-listed_room bytes {terms} h {c} d =
-    record { long = subst (λ (n : ℕ). terms_at + span n * 32 ≤ length terms) (sym d.n_is) (h.long d.accepted); kept = unlisted h.none }
-
--- what the test of both sizes tells
-pub exact_sizes : (room n entries size : ℕ) {exact : Bool} → exact ≡ (eqb room n && eqb entries size) → T exact → (room ≡ n) × (entries ≡ size)
-exact_sizes room n entries size e t =
-    let h = subst T e t in
-    (eqb→eq room n (and_left (eqb room n) (eqb entries size) h), eqb→eq entries size (and_right (eqb room n) (eqb entries size) h))
 
 -- ---- the ends of a call
 
-pub decodes_refused : (number : ℕ) {n : ℕ} (x : Result) {word entries : List ℕ} → n ≡ number → (n ≡ 0 → ⊥)
-    → Decodes number x word entries (refused n) word entries
-decodes_refused number {n} x {word} {entries} e h =
+pub decodes_refused : (number : ℕ) (why : Refusal) (x : Result) {word entries : List ℕ} → number_of why ≡ number
+    → Decodes number x word entries (refused (number_of why)) word entries
+decodes_refused number why x {word} {entries} e =
+    let h = number-not_zero why in
     record {
-      says = answers_refused n number (values x) e h;
-      answer_buffer = left_refused n number x.answer word e h;
-      matrix_buffer = left_refused n number x.entries entries e h;
+      says = answers_refused _ number (values x) e h;
+      answer_buffer = left_refused _ number x.answer word e h;
+      matrix_buffer = left_refused _ number x.entries entries e h;
     }
 
 -- the number may be written another way
@@ -128,24 +120,24 @@ decodes_same {x = x} {word₀ = word₀} {entries₀ = entries₀} {word = word}
     subst (λ (k : ℕ). Decodes k x word₀ entries₀ a word entries) e h
 
 -- the number of the whole call, where the book was accepted
-module _ (bytes received : List ℕ) {n : ℕ} (e : n ≡ refusal bytes) (z : n ≡ 0) where
+module _ (bytes received : List ℕ) (e : refusal bytes ≡ 0) where
   pub matrix-accepted : (size : ℕ) → matrix_input_refusal bytes received size ≡ matrix_refusal bytes received size
   unfolding matrix_refusal
-  matrix-accepted size = found_next n (refusal bytes) (matrix_input_refusal bytes received size) e z
+  matrix-accepted size = next_is (refusal bytes) (matrix_input_refusal bytes received size) (sym e)
 
   pub decode-accepted : (room size : ℕ) → decode_input_refusal bytes received room size ≡ decode_refusal bytes received room size
   unfolding decode_refusal
-  decode-accepted room size = found_next n (refusal bytes) (decode_input_refusal bytes received room size) e z
+  decode-accepted room size = next_is (refusal bytes) (decode_input_refusal bytes received room size) (sym e)
 
 -- and where it was not
-module _ (bytes received : List ℕ) {n : ℕ} (e : n ≡ refusal bytes) (h : n ≡ 0 → ⊥) where
-  pub matrix_refused : (size : ℕ) → n ≡ matrix_refusal bytes received size
+module _ (bytes received : List ℕ) (why : Refusal) (e : number_of why ≡ refusal bytes) where
+  pub matrix_refused : (size : ℕ) → number_of why ≡ matrix_refusal bytes received size
   unfolding matrix_refusal
-  matrix_refused size = found_first n (refusal bytes) (matrix_input_refusal bytes received size) e h
+  matrix_refused size = first_is why (refusal bytes) (matrix_input_refusal bytes received size) e
 
-  pub decode_refused : (room size : ℕ) → n ≡ decode_refusal bytes received room size
+  pub decode_refused : (room size : ℕ) → number_of why ≡ decode_refusal bytes received room size
   unfolding decode_refusal
-  decode_refused room size = found_first n (refusal bytes) (decode_input_refusal bytes received room size) e h
+  decode_refused room size = first_is why (refusal bytes) (decode_input_refusal bytes received room size) e
 
 -- ---- the answer of a word that is decoded
 
@@ -173,7 +165,7 @@ module _ (bytes : List ℕ) (c : Params) (d : Describes bytes c) (received : Lis
 
   pub decodes_done : (number : ℕ) {word₀ entries₀ word : List ℕ} {changed : ℕ} → number ≡ 0 → word ≡ table c.n (place end.word)
       → changed ≡ distance c.n (place end.word) (place received)
-      → Decodes number x word₀ entries₀ (said (Answered end.kind end.rounds changed)) word m
+      → Decodes number x word₀ entries₀ (said (Ok (record { kind = end.kind; rounds = end.rounds; changed = changed }))) word m
   decodes_done number {word₀} {entries₀} {word} {changed} z hw hc =
       record {
         says =

@@ -134,7 +134,7 @@ pub fn decode_word(
     let end = decode_rounds::run(book, c, t, terms, received, entries);
     let word = end.word;
     let reached: &[u8] = &word;
-    word_array::store(reached, &mut answer[..n]);
+    word_array::store(reached, answer);
     let changed = word_array::distance(n, reached, received);
     Ok(Decoded {
         kind: end.kind,

@@ -52,7 +52,9 @@ module _ (bytes : List ℕ) where
   -- rooms of so many terms, and of so many places for the table of the generator, suffice
   pub record RoomsFit (terms table : ℕ) : Type 0 where
     pub terms_fit : refusal bytes ≡ 0 → terms_at + span B.n * 32 ≤ terms
+    pub terms_most : terms ≤ 8384
     pub table_fits : table_room bytes ≤ table
+    pub table_most : table ≤ 8192
 
   -- a room in which nothing is listed yet, and which is large enough if the book is accepted
   pub record Unlisted (terms : List ℕ) : Type 0 where
