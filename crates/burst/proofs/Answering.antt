@@ -3,9 +3,8 @@
 use mathlib.Core.Path.{◌≡◌, refl, sym, ap, ◌∙◌, subst}
 use mathlib.Core.List.{List, []}
 use Prim.Native.Nat.{ℕ, zero, suc, ◌*◌, ◌^◌, ◌<◌}
-use lib.ListN.{get_or, take, replicate}
+use lib.ListN.{get_or}
 use Rattle.spec_field.specs.Answer.{answer}
-use Rattle.spec_field.proofs.Refusals.{found_first, found_next}
 use Rattle.spec_book.specs.Layout.{field_of}
 use Rattle.spec_book.specs.Conditions.{refusal}
 use Rattle.spec_book.proofs.Inputs.{words_low, words_high}
@@ -16,11 +15,13 @@ use Rattle.spec_operations.proofs.Burst.{TakenBurst}
 use Rattle.spec_operations.proofs.Wrote.{left_refused, left_done}
 use Rattle.book.specs.Params.{Describes}
 use Rattle.book.specs.declared.Params.{Params}
-use Rattle.burst.specs.Said.{list_bytes, counted, blank, Blank, Answered}
+use Rattle.std.specs.Prelude.{Ok, Err}
+use Rattle.refusal.specs.declared.Refusal.{Refusal}
+use Rattle.refusal.specs.Number.{number_of}
+use Rattle.refusal.proofs.Numbers.{number-not_zero, refused_is, first_is, next_is}
+use Rattle.burst.specs.Said.{counted, Outcome, Answered}
 use Rattle.burst.specs.Words.{Received, DecodedWords}
 use Rattle.burst.specs.declared.Record.{Record}
-use Rattle.burst.specs.declared.Burst.{Burst}
-use Rattle.burst.proofs.Loop.{none_blank}
 
 none_counted : (n words : ℕ) → (n ≡ 0 → ⊥) → 0 ≡ counted n words
 none_counted zero words h = absurd (h refl)
@@ -28,23 +29,24 @@ none_counted (suc n) words h = refl
 
 -- ---- the two ends of a call
 
-pub burst_ends_refused : (number n words : ℕ) (word : ℕ → Result) {answers entries : List ℕ} {r : Burst} → n ≡ number → (n ≡ 0 → ⊥)
-    → r.number ≡ n → r.count ≡ 0 → r.records ≡ replicate 16 blank → Answered number words word answers entries r answers entries
-burst_ends_refused number n words word {answers} {entries} {r} e h is none empty =
+pub burst_ends_refused : (number : ℕ) (why : Refusal) (words : ℕ) (word : ℕ → Result) {answers entries : List ℕ} → number_of why ≡ number
+    → Answered number words word answers entries (Err why) answers entries
+burst_ends_refused number why words word {answers} {entries} e =
+    let h = number-not_zero why in
     record {
       bursts = record {
-        says = ap (λ (k : ℕ). answer k []) (is ∙ e);
-        answers_buffer = left_refused n number (answers_of words word) answers e h;
-        records_list = ap (λ (k : ℕ). list_bytes (take k r.records)) none ∙ left_refused n number (records_of words word) [] e h;
-        matrix_buffer = left_refused n number (last_entries words word) entries e h;
+        says = refused_is why number [] e;
+        answers_buffer = left_refused _ number (answers_of words word) answers e h;
+        records_list = left_refused _ number (records_of words word) [] e h;
+        matrix_buffer = left_refused _ number (last_entries words word) entries e h;
       };
-      count_is = none ∙ none_counted n words h ∙ ap (λ (k : ℕ). counted k words) e;
-      rest_is = subst (λ (k : ℕ). Blank k r.records) (sym none) (none_blank empty);
+      count_is = none_counted _ words h ∙ ap (λ (k : ℕ). counted k words) e;
+      rest_is = tt;
     }
 
 pub burst_ends_done : (number words : ℕ) (word : ℕ → Result) {answers₀ entries₀ answers entries : List ℕ} {records : List Record} → number ≡ 0
     → DecodedWords words word records answers entries
-    → Answered number words word answers₀ entries₀ (record { number = 0; count = words; records = records }) answers entries
+    → Answered number words word answers₀ entries₀ (Ok (record { count = words; records = records })) answers entries
 burst_ends_done number words word {answers₀} {entries₀} z d =
     record {
       bursts = record {
@@ -76,16 +78,16 @@ matrix_sized bytes c d = ap (λ (p : ℕ). 2 ^ p * c.n) d.p_is ∙ ap (λ (n : �
 -- ---- the number of the whole call
 
 -- it may be written another way
-pub answered_same : {k k' words : ℕ} {word : ℕ → Result} {answers₀ entries₀ answers entries : List ℕ} {r : Burst} → k ≡ k'
+pub answered_same : {k k' words : ℕ} {word : ℕ → Result} {answers₀ entries₀ answers entries : List ℕ} {r : Outcome} → k ≡ k'
     → Answered k words word answers₀ entries₀ r answers entries → Answered k' words word answers₀ entries₀ r answers entries
 answered_same {words = words} {word = word} {answers₀ = answers₀} {entries₀ = entries₀} {answers = answers} {entries = entries} {r = r} e h =
     subst (λ (k : ℕ). Answered k words word answers₀ entries₀ r answers entries) e h
 
-module _ (bytes : List ℕ) (words : ℕ) (r : List ℕ) (room list size : ℕ) {n : ℕ} (e : n ≡ refusal bytes) where
-  pub burst_accepted : n ≡ 0 → burst_input_refusal bytes words r room list size ≡ burst_refusal bytes words r room list size
+module _ (bytes : List ℕ) (words : ℕ) (r : List ℕ) (room list size : ℕ) where
+  pub burst_accepted : refusal bytes ≡ 0 → burst_input_refusal bytes words r room list size ≡ burst_refusal bytes words r room list size
   unfolding burst_refusal
-  burst_accepted z = found_next n (refusal bytes) (burst_input_refusal bytes words r room list size) e z
+  burst_accepted e = next_is (refusal bytes) (burst_input_refusal bytes words r room list size) (sym e)
 
-  pub burst_refused : (n ≡ 0 → ⊥) → n ≡ burst_refusal bytes words r room list size
+  pub burst_refused : (why : Refusal) → number_of why ≡ refusal bytes → number_of why ≡ burst_refusal bytes words r room list size
   unfolding burst_refusal
-  burst_refused h = found_first n (refusal bytes) (burst_input_refusal bytes words r room list size) e h
+  burst_refused why e = first_is why (refusal bytes) (burst_input_refusal bytes words r room list size) e

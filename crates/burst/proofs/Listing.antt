@@ -11,6 +11,7 @@ use Rattle.spec_field.proofs.Refusals.{neither}
 use Rattle.spec_book.specs.Conditions.{refusal}
 use Rattle.spec_operations.specs.Burst.{burst_input_refusal, burst_refusal}
 use Rattle.spec_operations.proofs.Burst.{TakenBurst, taken_burst}
+use Rattle.std.specs.Prelude.{Ok}
 use Rattle.burst.specs.Said.{list_bytes, made_bytes, counted}
 use Rattle.burst.specs.declared.Record.{Record}
 use Rattle.burst.specs.declared.Burst.{Burst}
@@ -28,7 +29,7 @@ counted_most (suc number) words most h = omega arith
 
 -- the first records of a list are those that were made, and where none were made it is as it was
 pub listed : (number words : ℕ) (new : List ℕ) (made : Burst) (records : List Record) → made.count ≡ counted number words → (number ≡ 0 → length records ≡ words)
-    → made_bytes made ≡ left number new [] → list_bytes (take made.count made.records ++ drop made.count records) ≡ left number new (list_bytes records)
+    → made_bytes (Ok made) ≡ left number new [] → list_bytes (take made.count made.records ++ drop made.count records) ≡ left number new (list_bytes records)
 listed zero words new made records e long h =
     list_bytes_append (take made.count made.records) (drop made.count records)
     ∙ ap₂ (λ (l : List ℕ) (xs : List Record). l ++ list_bytes xs) h (drop_of_length-le records {i = made.count} (le_of_eq (long refl ∙ sym e)))

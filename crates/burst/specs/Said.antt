@@ -17,13 +17,17 @@ abbrev pub list_bytes : List Record → List ℕ
 list_bytes [] = []
 list_bytes (x ∷ xs) = record_bytes x ++ list_bytes xs
 
+-- what a burst answers by value: its records, or why it is refused
+abbrev pub Outcome : Type 0
+Outcome = Result Burst Refusal
+
 -- how many records were made: none by a burst that is refused
-abbrev pub count_of : Result Burst Refusal → ℕ
+abbrev pub count_of : Outcome → ℕ
 count_of (Ok made) = made.count
 count_of (Err why) = 0
 
 -- the records that were made
-abbrev pub made_bytes : Result Burst Refusal → List ℕ
+abbrev pub made_bytes : Outcome → List ℕ
 made_bytes (Ok made) = list_bytes (take made.count made.records)
 made_bytes (Err why) = []
 
@@ -45,12 +49,12 @@ pub record Blank (m : ℕ) (records : List Record) : Type 0 where
   pub blank_at : (k : ℕ) → m ≤ k → record_at records k ≡ blank
 
 -- past the records that were made there are none
-abbrev pub BlankAfter : Result Burst Refusal → Type 0
+abbrev pub BlankAfter : Outcome → Type 0
 BlankAfter (Ok made) = Blank made.count made.records
 BlankAfter (Err why) = Unit {0}
 
 -- a burst with first refusal number `number`, and the results of its words where that is 0: what it answers by value, r, and the two buffers in the end
-pub record Answered (number words : ℕ) (word : ℕ → D.Result) (answers₀ entries₀ : List ℕ) (r : Result Burst Refusal) (answers entries : List ℕ) : Type 0 where
+pub record Answered (number words : ℕ) (word : ℕ → D.Result) (answers₀ entries₀ : List ℕ) (r : Outcome) (answers entries : List ℕ) : Type 0 where
   pub bursts : Bursts number words word answers₀ [] entries₀ (said r) answers (made_bytes r) entries
   pub count_is : count_of r ≡ counted number words
   pub rest_is : BlankAfter r

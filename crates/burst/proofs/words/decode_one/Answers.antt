@@ -5,7 +5,7 @@ use native.Mathlib.Nat.{le_of_eq}
 use native.Mathlib.Omega.{arith}
 use lib.Seq.{length-take-le}
 use Rattle.book.proofs.Described.{params_sizes}
-use Rattle.burst.proofs.Word.{room_for, word_is, decoded_word}
+use Rattle.burst.proofs.Word.{room_for, word_is, not_refused, says_values, decoded_word}
 use Rattle.burst.proofs.words.decode_one.Goals as goal
 
 pub unmix-w-requires : goal.unmix-w-requires
@@ -26,12 +26,16 @@ pub decode_word-requires : goal.decode_word-requires
 decode_word-requires c =
     let h = c.requires in (h.0, h.1, h.2)
 
+pub unwrap-told-requires : goal.unwrap-told-requires
+unwrap-told-requires c =
+    let h = c.requires in
+    not_refused _
+    (says_values _ _ h.0 _ _ h.3 h.4 _ _ _ _ (word_is _ _ h.0 _ _ h.3 h.4 c.unmix-w.ensures) c.decode_word.ensures.0 h.5 h.6)
+
 pub returns : goal.returns
 returns c =
-    let called = c in
-    let unmixed = called in
-    let h = unmixed.requires in (
-      decoded_word _ _ h.0 _ _ h.3 h.4 _ _ _ (word_is _ _ h.0 _ _ h.3 h.4 unmixed.unmix-w.ensures) called.decode_word.ensures.0 h.5 h.6
-          c.record_of.ensures,
-      called.decode_word.ensures.1,
+    let h = c.requires in (
+      decoded_word _ _ h.0 _ _ h.3 h.4 _ _ _ _ (word_is _ _ h.0 _ _ h.3 h.4 c.unmix-w.ensures) c.decode_word.ensures.0 h.5 h.6 c.unwrap-told.ensures
+          c.from.ensures,
+      c.decode_word.ensures.1,
     )

@@ -1,0 +1,23 @@
+-- `burst::burst_in` meets its contract.
+-- Assumes nothing.
+use Prim.Native.Nat.{ℕ}
+use native.Mathlib.Omega.{arith}
+use lib.ListN.{length-replicate}
+use Rattle.std.proofs.lemmas.Result.{err_from_is_err_and}
+use Rattle.decode.proofs.Answering.{listed_room}
+use Rattle.burst.proofs.Answering.{burst_ends_refused, burst_accepted, burst_refused, answered_same}
+use Rattle.burst.proofs.burst_in.Goals as goal
+
+pub open-requires : goal.open-requires
+open-requires g c = omega (arith, c.requires.table_fits, length-replicate {A = ℕ} g.row.TABLE 0)
+
+pub burst_words-requires : goal.burst_words-requires
+burst_words-requires g c = let h = c.in_ok-c.ensures.0 in (h.0, h.1, listed_room c.requires h.0)
+
+pub returns-in_err-c : goal.returns-in_err-c
+returns-in_err-c g c =
+    let p = err_from_is_err_and c.from_residual.result c.from_residual.ensures.1 in
+    rw (p.1, p.2) (burst_ends_refused _ _ _ _ (burst_refused _ _ _ _ _ _ _ c.in_err-c.ensures.0.0))
+
+pub returns : goal.returns
+returns g c = answered_same (burst_accepted _ _ _ _ _ _ c.in_ok-c.ensures.0.0.accepted) c.burst_words.ensures
