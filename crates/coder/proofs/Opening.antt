@@ -1,4 +1,4 @@
--- What an open book gives to the code that works with it: the refusal numbers by the parameters.
+-- What opening a book gives to an operation that goes on with it, and the refusal numbers by the parameters that were read off the book.
 -- Assumes nothing.
 use mathlib.Core.Path.{◌≡◌, sym, ◌∙◌, subst}
 use mathlib.Core.Bool.{Bool}
@@ -6,32 +6,52 @@ use mathlib.Core.List.{List}
 use Prim.Native.Nat.{ℕ, ◌-◌, ◌^◌, ◌≤◌, ◌<◌}
 use lib.Dec.{T, eqb, eqb→eq}
 use lib.ListN.{length}
-use Rattle.spec_book.specs.Conditions.{message_fits, input_refusal}
+use Rattle.std.specs.Prelude.{Result}
+use Rattle.std.specs.Result.{IsErrAnd}
+use Rattle.std.proofs.lemmas.Result.{err_from_is_err_and}
+use Rattle.refusal.specs.declared.Refusal.{Refusal}
+use Rattle.refusal.specs.Number.{number_of, said}
+use Rattle.refusal.proofs.Numbers.{first_is, number-not_zero}
+use Rattle.spec_field.specs.Answer.{or_else}
+use Rattle.spec_book.specs.Conditions.{refusal, message_fits, input_refusal}
 use Rattle.spec_book.proofs.Inputs.{fits_high, accepted_input}
+use Rattle.spec_operations.specs.Wrote.{Wrote}
 use Rattle.spec_operations.specs.Coding.{code_input_refusal, read_input_refusal}
 use Rattle.spec_operations.specs.Remainder.{remainder_input_refusal}
+use Rattle.spec_operations.proofs.Wrote.{wrote_refused}
 use Rattle.word_array.specs.Stored.{place}
-use Rattle.book.specs.Opened.{Opens, OpenBook}
-use Rattle.book.specs.declared.Opened.{Opened}
-use Rattle.book.specs.declared.Opened.TheVariants.{Open}
+use Rattle.book.specs.Params.{Tabulated, Describes}
+use Rattle.book.specs.Opened.{OpenBook, SomeBook}
 use Rattle.book.specs.declared.Params.{Params}
-use Rattle.book.proofs.Answering.{opens_open}
 
--- what opening a book answers and leaves, where it answers that the book is open
-pub opened : (bytes : List ℕ) (r : Opened) (t : List ℕ) → Opens bytes r t → {c : Params} → r ≡ Open c → OpenBook bytes c t
-opened bytes r t h e = let both = opens_open bytes r t h e in record { describes = both.0; table_is = both.1 }
+module _ {bytes : List ℕ} {c : Params} {t : List ℕ} (h : Describes bytes c × Tabulated bytes c.p c.n t) where
+  pub open_book : OpenBook bytes c t
+  open_book = record { describes = h.0; table_is = h.1 }
 
--- ---- an input for which the number 0 was found, and the room for the output
+  pub some_book : SomeBook c t
+  some_book = record { bytes = bytes; open_book = open_book }
+
+-- ---- a call that ends with a refusal, which leaves the buffer as it was
+
+module _ {A : Type 0} {new old : List ℕ} (why : Refusal) (r : Result A Refusal) (p : IsErrAnd r (λ y. y ≡ why)) where
+  pub ended : {number : ℕ} → number_of why ≡ number → Wrote number new old (said r) old
+  ended e = let q = err_from_is_err_and r p in rw (q.1, q.2) (wrote_refused e (number-not_zero why))
+
+  -- the book's, before those of the operation
+  pub not_opened : (bytes : List ℕ) (next : ℕ) → number_of why ≡ refusal bytes → Wrote (or_else (refusal bytes) next) new old (said r) old
+  not_opened bytes next e = ended (first_is why (refusal bytes) next e)
+
+-- ---- an input that was not refused, and the room for the output
 
 pub record Taken (p : ℕ) (fits : Bool) (input : List ℕ) (room wanted : ℕ) : Type 0 where
   pub size_fits : T fits
   pub room_is : room ≡ wanted
   pub symbol : (j : ℕ) → j < length input → place input j < 2 ^ p
 
-pub taken : {p wanted : ℕ} {fits : Bool} (input : List ℕ) (room : ℕ) {number q : ℕ} → q ≡ 2 ^ p
-    → number ≡ input_refusal q fits (eqb room wanted) input → number ≡ 0 → Taken p fits input room wanted
-taken {wanted = wanted} input room hq h z =
-    let i = accepted_input _ _ _ input (sym h ∙ z) in
+pub taken : {p wanted : ℕ} {fits : Bool} (input : List ℕ) (room : ℕ) {q : ℕ} → q ≡ 2 ^ p → 0 ≡ input_refusal q fits (eqb room wanted) input
+    → Taken p fits input room wanted
+taken {wanted = wanted} input room hq h =
+    let i = accepted_input _ _ _ input (sym h) in
     record {
       size_fits = i.size;
       room_is = eqb→eq room wanted i.sizes;

@@ -7,7 +7,6 @@ use native.Mathlib.Nat.{le_trans, le_of_eq, mul-le-mul_left}
 use lib.Dec.{eqb}
 use lib.ListN.{length}
 use Rattle.spec_field.specs.Answer.{Answer, answer, done, refused, left}
-use Rattle.spec_field.proofs.Refusals.{found_first, found_next, answers_refused}
 use Rattle.spec_word.specs.Mixed.{part}
 use Rattle.spec_word.proofs.Mixed.{part-joined, joined_same}
 use Rattle.spec_book.specs.Book.{message_length}
@@ -24,10 +23,15 @@ use Rattle.spec_operations.proofs.Burst.{burst_taken}
 use Rattle.spec_operations.proofs.Game.{TakenGame, taken_game, held_records_lem, game-answer, game-read}
 use Rattle.book.specs.Params.{Describes}
 use Rattle.book.specs.declared.Params.{Params}
-use Rattle.burst.specs.Said.{made_bytes, counted, Answered}
+use Rattle.std.specs.Prelude.{Ok, IsOk}
+use Rattle.refusal.specs.declared.Refusal.{Refusal}
+use Rattle.refusal.specs.Number.{number_of}
+use Rattle.refusal.proofs.Numbers.{number-not_zero, refused_is, first_is, next_is}
+use Rattle.burst.specs.Said.{Outcome, count_of, made_bytes, counted, Answered}
 use Rattle.burst.specs.declared.Burst.{Burst}
 use Rattle.burst.proofs.Answering.{matrix_sized}
 use Rattle.game.specs.Rooms.{MatrixRoom, AnswersRoom}
+use Rattle.game.proofs.Reading.{is_done}
 use Rattle.game.specs.Words.{Readable, messages_in}
 
 -- ---- the three ends of a call
@@ -38,8 +42,9 @@ some_letter zero h = absurd (h refl)
 some_letter (suc held) h = refl
 
 module _ (bytes : List ℕ) (number words : ℕ) (r : List ℕ) {old : List ℕ} where
-  pub games_refused : {n : ℕ} → n ≡ number → (n ≡ 0 → ⊥) → Games bytes number words r old (refused n) old
-  games_refused {n} e h = record { says = answers_refused n number _ e h; buffer = left_refused n number (game_messages bytes words r old) old e h }
+  pub games_refused : (why : Refusal) → number_of why ≡ number → Games bytes number words r old (refused (number_of why)) old
+  games_refused why e =
+      record { says = refused_is why number _ e; buffer = left_refused _ number (game_messages bytes words r old) old e (number-not_zero why) }
 
   pub games_held : {held : ℕ} → number ≡ 0 → held ≡ game_held bytes words r → (held ≡ 0 → ⊥) → Games bytes number words r old (done (held ∷ 0 ∷ game_letter 1 ∷ [])) old
   games_held {held} z e h =
@@ -66,24 +71,24 @@ unfolding game_input_refusal
 game_number bytes c d words r room h hq = h ∙ rw (hq, d.p_is, d.n_is, d.degree_is)
 
 -- and where it is 0, the game is taken
-pub game_taken : (bytes : List ℕ) (c : Params) → Describes bytes c → (words : ℕ) (r : List ℕ) (room : ℕ) {number q : ℕ}
-    → number ≡ unless (words_ok words) 14 (input_refusal q (eqb (length r) (c.n * words)) (eqb room ((c.n - c.degree) * words)) r) → q ≡ 2 ^ c.p
-    → number ≡ 0 → TakenGame bytes words r room
-game_taken bytes c d words r room h hq z = taken_game bytes words r room (sym (game_number bytes c d words r room h hq) ∙ z)
+pub game_taken : (bytes : List ℕ) (c : Params) → Describes bytes c → (words : ℕ) (r : List ℕ) (room : ℕ) {q : ℕ}
+    → 0 ≡ unless (words_ok words) 14 (input_refusal q (eqb (length r) (c.n * words)) (eqb room ((c.n - c.degree) * words)) r) → q ≡ 2 ^ c.p
+    → TakenGame bytes words r room
+game_taken bytes c d words r room h hq = taken_game bytes words r room (sym (game_number bytes c d words r room h hq))
 
 -- of the whole call; it may be written another way
 pub games_same : {bytes : List ℕ} {k k' words : ℕ} {r old messages : List ℕ} {a : Answer} → k ≡ k' → Games bytes k words r old a messages
     → Games bytes k' words r old a messages
 games_same {bytes} {words = words} {r = r} {old = old} {messages = messages} {a = a} e h = subst (λ (k : ℕ). Games bytes k words r old a messages) e h
 
-module _ (bytes : List ℕ) (words : ℕ) (r : List ℕ) (room : ℕ) {n : ℕ} (e : n ≡ refusal bytes) where
-  pub game_accepted : n ≡ 0 → game_input_refusal bytes words r room ≡ game_refusal bytes words r room
+module _ (bytes : List ℕ) (words : ℕ) (r : List ℕ) (room : ℕ) where
+  pub game_accepted : refusal bytes ≡ 0 → game_input_refusal bytes words r room ≡ game_refusal bytes words r room
   unfolding game_refusal
-  game_accepted z = found_next n (refusal bytes) (game_input_refusal bytes words r room) e z
+  game_accepted e = next_is (refusal bytes) (game_input_refusal bytes words r room) (sym e)
 
-  pub game_refused : (n ≡ 0 → ⊥) → n ≡ game_refusal bytes words r room
+  pub game_refused : (why : Refusal) → number_of why ≡ refusal bytes → number_of why ≡ game_refusal bytes words r room
   unfolding game_refusal
-  game_refused h = found_first n (refusal bytes) (game_input_refusal bytes words r room) e h
+  game_refused why e = first_is why (refusal bytes) (game_input_refusal bytes words r room) e
 
 -- ---- a game that is taken
 
@@ -103,28 +108,33 @@ module _ (bytes : List ℕ) (ok : refusal bytes ≡ 0) (words : ℕ) (r : List �
   -- its burst is not refused, and this is what it answers and leaves
   pub record DecodedGame (made : Burst) (answers : List ℕ) : Type 0 where
     pub count_is : made.count ≡ words
-    pub held-is : held_records made.count (made_bytes made) ≡ game_held bytes words r
+    pub held-is : held_records made.count (made_bytes (Ok made)) ≡ game_held bytes words r
     pub answers_are : answers ≡ answers_of words (burst_word bytes words r)
 
-  pub decoded_game : {list size : ℕ} {answers₀ entries₀ answers entries : List ℕ} {made : Burst}
-      → Answered (burst_input_refusal bytes words r (length answers₀) list size) words (burst_word bytes words r) answers₀ entries₀ made answers entries
-      → length answers₀ ≡ burst_size bytes words → list ≡ words → size ≡ matrix_size bytes → DecodedGame made answers
-  decoded_game {list} {size} {answers₀} {entries₀} {answers} {entries} {made} d ha hl hs =
-      record {
-        count_is = all;
-        held-is =
-            ap₂ held_records all (d.bursts.records_list ∙ ap (λ (n : ℕ). left n (records_of words (burst_word bytes words r)) []) z)
-            ∙ held_records_lem words (burst_word bytes words r);
-        answers_are = d.bursts.answers_buffer ∙ ap (λ (n : ℕ). left n (answers_of words (burst_word bytes words r)) answers₀) z;
-      }
-    where
-      z : burst_input_refusal bytes words r (length answers₀) list size ≡ 0
-      z =
-          burst_taken bytes words r (length answers₀) list size
-          (record { count = h.count; size = h.size; answers_size = ha; list_size = hl; entries_size = hs; symbol = h.symbol })
+  module _ {list size : ℕ} {answers₀ entries₀ answers entries : List ℕ} {outcome : Outcome}
+      (d : Answered (burst_input_refusal bytes words r (length answers₀) list size) words (burst_word bytes words r) answers₀ entries₀ outcome answers entries)
+      (ha : length answers₀ ≡ burst_size bytes words) (hl : list ≡ words) (hs : size ≡ matrix_size bytes) where
+    z : burst_input_refusal bytes words r (length answers₀) list size ≡ 0
+    z =
+        burst_taken bytes words r (length answers₀) list size
+        (record { count = h.count; size = h.size; answers_size = ha; list_size = hl; entries_size = hs; symbol = h.symbol })
 
-      all : made.count ≡ words
-      all = d.count_is ∙ ap (λ (n : ℕ). counted n words) z
+    pub not_refused : IsOk outcome
+    not_refused = is_done outcome (d.bursts.says ∙ ap (λ (n : ℕ). answer n []) z)
+
+    pub decoded_game : {made : Burst} → outcome ≡ Ok made → DecodedGame made answers
+    decoded_game {made} is =
+        record {
+          count_is = all;
+          held-is =
+              ap₂ held_records all
+              (ap made_bytes (sym is) ∙ d.bursts.records_list ∙ ap (λ (n : ℕ). left n (records_of words (burst_word bytes words r)) []) z)
+              ∙ held_records_lem words (burst_word bytes words r);
+          answers_are = d.bursts.answers_buffer ∙ ap (λ (n : ℕ). left n (answers_of words (burst_word bytes words r)) answers₀) z;
+        }
+      where
+        all : made.count ≡ words
+        all = ap count_of (sym is) ∙ d.count_is ∙ ap (λ (n : ℕ). counted n words) z
 
   -- each answer word stands in its place, so that all can be read
   module _ {answers : List ℕ} (e : answers ≡ answers_of words (burst_word bytes words r)) where

@@ -11,6 +11,7 @@ use lib.Seq.{get_or-take}
 use Rattle.spec_range.specs.Fold.{fold, indicator}
 use Rattle.spec_range.proofs.Count.{count_le}
 use Rattle.spec_operations.specs.GameTrips.{held_letter, held_records}
+use Rattle.std.specs.Prelude.{Ok}
 use Rattle.burst.specs.Said.{list_bytes, made_bytes, blank, record_at}
 use Rattle.burst.specs.declared.Record.{Record}
 use Rattle.burst.specs.declared.Burst.{Burst}
@@ -33,15 +34,15 @@ byte_le true = omega arith
 byte_le false = omega arith
 
 -- one record more
-pub held_more : (made : Burst) (m : ℕ) {held : ℕ} {x : Record} {b : Bool} → m < made.count → held ≡ held_records m (made_bytes made)
-    → x ≡ record_at made.records m → b ≡ held_letter x.kind → held + bool_byte b ≡ held_records (m + 1) (made_bytes made)
+pub held_more : (made : Burst) (m : ℕ) {held : ℕ} {x : Record} {b : Bool} → m < made.count → held ≡ held_records m (made_bytes (Ok made))
+    → x ≡ record_at made.records m → b ≡ held_letter x.kind → held + bool_byte b ≡ held_records (m + 1) (made_bytes (Ok made))
 unfolding fold
 held_more made m {b = b} l h r e =
     ap₂ ◌+◌ h
     (byte-indicator b ∙ ap indicator e
     ∙ ap (λ (x : Record). indicator (held_letter x.kind)) (r ∙ sym (get_or-take made.count made.records m blank l))
     ∙ ap (λ (k : ℕ). indicator (held_letter k)) (sym (letter_at (take made.count made.records) m)))
-    ∙ ap (λ (k : ℕ). held_records k (made_bytes made)) next
+    ∙ ap (λ (k : ℕ). held_records k (made_bytes (Ok made))) next
   where
     next : suc m ≡ m + 1
     next = omega arith

@@ -1,14 +1,17 @@
 -- The messages of answer words, read one after another: what stands after m of them.
 -- Assumes nothing.
 use mathlib.Core.Path.{◌≡◌, refl, sym, ap, ap₂, ◌∙◌, subst}
-use mathlib.Core.List.{List, ◌++◌, append-nil}
+use mathlib.Core.List.{List, [], ◌++◌, append-nil}
 use Prim.Native.Nat.{ℕ, suc, ◌+◌, ◌*◌, ◌-◌, ◌≤◌, ◌<◌}
 use native.Mathlib.Nat.{suc-mul, zero-mul, mul_comm}
 use native.Mathlib.Omega.{arith}
 use lib.ListN.{length, drop, drop_of_length-le}
 use borrow.Rule.Slice.PartMut.{put_mid}
 use Rattle.spec_range.proofs.Table.{table-length}
-use Rattle.spec_field.specs.Answer.{Answer}
+use Rattle.std.specs.Prelude.{Result, Ok, Err, IsOk}
+use Rattle.spec_field.specs.Answer.{Answer, answer, done}
+use Rattle.refusal.specs.declared.Refusal.{Refusal}
+use Rattle.refusal.specs.Number.{said}
 use Rattle.spec_word.specs.Mixed.{joined, part}
 use Rattle.spec_word.proofs.Mixed.{joined_length}
 use Rattle.spec_book.specs.Book.{message_length}
@@ -23,7 +26,7 @@ use Rattle.book.specs.Opened.{OpenBook}
 use Rattle.book.specs.declared.Params.{Params}
 use Rattle.book.proofs.Described.{params_sizes}
 use Rattle.burst.proofs.Loop.{put_next}
-use Rattle.game.specs.Words.{Readable, messages_in}
+use Rattle.game.specs.Words.{Readable, SomeWords, messages_in}
 
 -- a message has k symbols
 message-length : (bytes w : List ℕ) → length (message_of bytes w) ≡ message_length (book_of bytes)
@@ -44,9 +47,25 @@ degree_le {bytes} d = omega (arith, d.n_is, d.degree_is, (book_accepted bytes d.
 pub k_high : {bytes : List ℕ} {c : Params} → Describes bytes c → c.n - c.degree ≤ 255
 k_high {bytes} {c} d = omega (arith, (params_sizes bytes c d).n_high)
 
+-- what is done is not refused
+pub is_done : {A : Type 0} (r : Result A Refusal) → said r ≡ done [] → IsOk r
+is_done (Ok value) e = refl
+is_done (Err why) e = let no : ◌≡◌ {A = ℕ} 0 1 = cc in absurd (omega (arith, no))
+
 module _ (c : Params) (t : List ℕ) (words : ℕ) (answers messages₀ : List ℕ) where
   abbrev k : ℕ
   k = c.n - c.degree
+
+  -- a word that can be read is read
+  read_taken : {bytes : List ℕ} → OpenBook bytes c t → Readable bytes words answers → {m : ℕ} → m < words → {v : List ℕ} (old : List ℕ) → v ≡ part c.n answers m
+      → length old ≡ k → read_word_refusal bytes v (length old) ≡ 0
+  read_taken {bytes} b r {m} h old hv ho =
+      ap₂ (read_word_refusal bytes) (hv ∙ ap (λ (n : ℕ). part n answers m) b.describes.n_is) (ho ∙ k_is b) ∙ r.can_read m h
+
+  pub word_read : (w : SomeWords c t words answers) → {m : ℕ} → m < words → {v old new : List ℕ} {A : Type 0} (r : Result A Refusal) → v ≡ part c.n answers m → length old ≡ k
+      → ((bytes : List ℕ) → OpenBook bytes c t → Wrote (read_word_refusal bytes v (length old)) (message_of bytes v) old (said r) new) → IsOk r
+  word_read w h {old = old} r hv ho wrote =
+      is_done r ((wrote w.bytes w.open_book).says ∙ ap (λ (n : ℕ). answer n []) (read_taken w.open_book w.readable h old hv ho))
 
   pub record ReadSoFar (m : ℕ) (messages : List ℕ) : Type 0 where
     pub most : m ≤ words
@@ -75,8 +94,7 @@ module _ (c : Params) (t : List ℕ) (words : ℕ) (answers messages₀ : List �
         same = put ∙ s.same;
         messages-are = λ bytes b r.
             let word : v ≡ part (book_of bytes).n answers m = hv ∙ ap (λ (n : ℕ). part n answers m) b.describes.n_is in
-            let z : read_word_refusal bytes v (length old) ≡ 0 =
-            ap₂ (read_word_refusal bytes) word (ho ∙ k_is b) ∙ r.can_read m h in
+            let z = read_taken b r h old hv ho in
             ap (λ (l : List ℕ). put_mid (m * k) (m * k + k - m * k) l new) (s.messages-are bytes b r)
             ∙ put_next k (m * k) (messages_in bytes m answers) messages₀ new (read-long bytes b m)
             ∙ ap₂ (λ (l : List ℕ) (i : ℕ). (messages_in bytes m answers ++ l) ++ drop i messages₀)

@@ -18,4 +18,6 @@ pub record AnswersRoom (bytes answers : List ℕ) : Type 0 where
 pub record GameFits (bytes : List ℕ) (terms table places entries : ℕ) : Type 0 where
   pub rooms_fit : RoomsFit bytes terms table
   pub places_fit : refusal bytes ≡ 0 → (book_of bytes).n * 16 ≤ places
+  pub places_most : places ≤ 4080
   pub entries_fit : refusal bytes ≡ 0 → matrix_size bytes ≤ entries
+  pub entries_most : entries ≤ 4080

@@ -1,20 +1,20 @@
 // A game once the book is open: its words are decoded, and where none is held their messages are read.
-ghost use Rattle.std.specs.Prelude.{◌≡◌, List, ℕ, ◌-◌, ◌*◌, ◌^◌, ◌≤◌, length};
+ghost use Rattle.std.specs.Prelude.{◌≡◌, List, ℕ, ◌-◌, ◌*◌, ◌^◌, ◌≤◌, length, Ok};
 ghost use Rattle.spec_operations.specs.Game.{game_input_refusal, Games};
 ghost use Rattle.book.specs.Params.{Tabulated, Describes};
-ghost use Rattle.book.specs.Opened.{OpenBook, SomeBook};
+ghost use Rattle.book.specs.Opened.{OpenBook};
 ghost use Rattle.decode_rounds.specs.Rounds.{TermsRoom};
 ghost use Rattle.game.specs.Said.{said};
 ghost use Rattle.game.specs.Rooms.{MatrixRoom, AnswersRoom};
-ghost use Rattle.game.specs.Words.{Readable, messages_in};
+ghost use Rattle.game.specs.Words.{Readable, SomeWords, messages_in};
 
 use crate::{Game, taking};
 use book::Params;
 use refusal::Refusal;
 
-// Reads the messages of answer words that stand one after another.
+// Reads the messages of answer words that stand one after another, each of which is a code word.
 fn read_all(c: Params, t: &[u8], words: usize, answers: &[u8], messages: &mut [u8])
-    requires { SomeBook c t.now × (words ≤ 16) × (length answers.now ≡ c.n * words) × (length messages.old ≡ (c.n - c.degree) * words) }
+    requires { SomeWords c t.now words answers.now × (words ≤ 16) × (length answers.now ≡ c.n * words) × (length messages.old ≡ (c.n - c.degree) * words) }
     ensures { (bytes : List ℕ) → OpenBook bytes c t.now → Readable bytes words answers.now
         → messages.new ≡ messages_in bytes words answers.now }
 {
@@ -23,11 +23,11 @@ fn read_all(c: Params, t: &[u8], words: usize, answers: &[u8], messages: &mut [u
     for m in 0..words {
         let from = m * n;
         let to = m * k;
-        coder::read_word(c, t, &answers[from..from + n], &mut messages[to..to + k]);
+        coder::read_word(c, t, &answers[from..from + n], &mut messages[to..to + k]).unwrap();
     }
 }
 
-// Takes a game that is not refused, with room of the exact sizes for its answer words and a matrix. Nothing is written before the last word is decoded.
+// Takes a game that is not refused, and so its burst is not, with room of the exact sizes for its answer words and a matrix. Nothing is written before the last word is decoded.
 fn take_words(
     book: &[u8],
     c: Params,
@@ -38,19 +38,19 @@ fn take_words(
     words: u32,
     received: &[u8],
     messages: &mut [u8],
-) -> Result<Game, Refusal>
+) -> Game
     requires { Describes book.now c × Tabulated book.now c.p c.n t.now × TermsRoom book.now c terms.old
         × (length answers.old ≡ c.n * words) × (length entries.old ≡ 2 ^ c.p * c.n) × (game_input_refusal book.now words received.now (length messages.old) ≡ 0) }
-    ensures { Games book.now 0 words received.now messages.old (said result) messages.new }
+    ensures { Games book.now 0 words received.now messages.old (said (Ok result)) messages.new }
 {
     let count = words as usize;
-    let made = burst::burst_words(book, c, t, terms, words, received, answers, count, entries)?;
+    let made = burst::burst_words(book, c, t, terms, words, received, answers, count, entries).unwrap();
     let held = taking::held(made);
     if held != 0 {
-        return Ok(Game::Held(held));
+        return Game::Held(held);
     }
     read_all(c, t, count, answers, messages);
-    Ok(Game::Whole)
+    Game::Whole
 }
 
 // The same for all inputs: t is the table of the book's generator.
@@ -77,7 +77,7 @@ pub fn game_words(
     refusals::words_refusal(q, words, received, n, messages.len(), k)?;
     let size = n * (words as usize);
     let matrix = decode::matrix_size(p, n);
-    take_words(
+    Ok(take_words(
         book,
         c,
         t,
@@ -87,5 +87,5 @@ pub fn game_words(
         words,
         received,
         messages,
-    )
+    ))
 }

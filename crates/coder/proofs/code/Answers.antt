@@ -1,31 +1,23 @@
--- `coder::code` meets its contract.
+-- `coder::code` meets its contract: the number is the book's, or the open book is worked with.
 -- Assumes nothing.
 use mathlib.Core.Path.{refl}
-use native.Mathlib.Omega.{arith}
-use Rattle.spec_operations.proofs.Wrote.{wrote_refused}
-use Rattle.spec_operations.proofs.Coding.{code_refused, code-goes-on}
-use Rattle.book.proofs.Answering.{opens_refused}
+use Rattle.spec_operations.specs.Coding.{code_refusal}
+use Rattle.spec_operations.proofs.Coding.{code-goes-on}
 use Rattle.book.proofs.Rooms.{any_room}
-use Rattle.coder.proofs.Opening.{opened}
+use Rattle.coder.proofs.Opening.{open_book, some_book, not_opened}
 use Rattle.coder.proofs.code.Goals as goal
 
-pub open-opened-requires : goal.open-opened-requires
-open-opened-requires c = any_room _ c.table_room-t.ensures
+pub open-requires : goal.open-requires
+open-requires c = any_room _ refl
+
+pub returns-in_err-c : goal.returns-in_err-c
+unfolding code_refusal
+returns-in_err-c c = not_opened _ _ c.from_residual.ensures.1 _ _ c.in_err-c.ensures.0.0
 
 pub code_message-requires : goal.code_message-requires
-code_message-requires c =
-    let o = c in
-    let s = o in
-    let start = s in
-    record { bytes = start.args.book.now; open_book = opened _ _ _ s.open-opened.ensures.0 o.in-Open.is }
+code_message-requires c = some_book c.in_ok-c.ensures.0
 
-pub returns-in-Refused : goal.returns-in-Refused
-returns-in-Refused c =
-    let h = opens_refused _ _ _ c.open-opened.ensures.0 c.in-Refused.is in
-    wrote_refused (code_refused _ _ _ h.0 (λ z. omega (arith, h.1))) (λ z. omega (arith, h.1))
-
-pub returns-in-Open : goal.returns-in-Open
-returns-in-Open c =
-    let o = c in
-    let b = opened _ _ _ o.open-opened.ensures.0 o.in-Open.is in
+pub returns : goal.returns
+returns c =
+    let b = open_book c.in_ok-c.ensures.0 in
     code-goes-on _ _ _ refl b.describes.accepted (c.code_message.ensures _ b)

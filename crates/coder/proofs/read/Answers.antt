@@ -1,31 +1,23 @@
--- `coder::read` meets its contract.
+-- `coder::read` meets its contract: the number is the book's, or the open book is worked with.
 -- Assumes nothing.
 use mathlib.Core.Path.{refl}
-use native.Mathlib.Omega.{arith}
-use Rattle.spec_operations.proofs.Wrote.{wrote_refused}
-use Rattle.spec_operations.proofs.Coding.{read_refused, read-goes-on}
-use Rattle.book.proofs.Answering.{opens_refused}
+use Rattle.spec_operations.specs.Coding.{read_refusal}
+use Rattle.spec_operations.proofs.Coding.{read-goes-on}
 use Rattle.book.proofs.Rooms.{any_room}
-use Rattle.coder.proofs.Opening.{opened}
+use Rattle.coder.proofs.Opening.{open_book, some_book, not_opened}
 use Rattle.coder.proofs.read.Goals as goal
 
-pub open-opened-requires : goal.open-opened-requires
-open-opened-requires c = any_room _ c.table_room-t.ensures
+pub open-requires : goal.open-requires
+open-requires c = any_room _ refl
+
+pub returns-in_err-c : goal.returns-in_err-c
+unfolding read_refusal
+returns-in_err-c c = not_opened _ _ c.from_residual.ensures.1 _ _ c.in_err-c.ensures.0.0
 
 pub read_word-requires : goal.read_word-requires
-read_word-requires c =
-    let o = c in
-    let s = o in
-    let start = s in
-    record { bytes = start.args.book.now; open_book = opened _ _ _ s.open-opened.ensures.0 o.in-Open.is }
+read_word-requires c = some_book c.in_ok-c.ensures.0
 
-pub returns-in-Refused : goal.returns-in-Refused
-returns-in-Refused c =
-    let h = opens_refused _ _ _ c.open-opened.ensures.0 c.in-Refused.is in
-    wrote_refused (read_refused _ _ _ h.0 (λ z. omega (arith, h.1))) (λ z. omega (arith, h.1))
-
-pub returns-in-Open : goal.returns-in-Open
-returns-in-Open c =
-    let o = c in
-    let b = opened _ _ _ o.open-opened.ensures.0 o.in-Open.is in
+pub returns : goal.returns
+returns c =
+    let b = open_book c.in_ok-c.ensures.0 in
     read-goes-on _ _ _ refl b.describes.accepted (c.read_word.ensures _ b)

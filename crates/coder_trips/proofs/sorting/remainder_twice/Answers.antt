@@ -1,10 +1,7 @@
--- `coder_trips::sorting::remainder_twice` meets its contract.
+-- `coder_trips::sorting::remainder_twice` meets its contract: what the two calls ensure together.
 -- Assumes nothing.
 use Rattle.spec_operations.proofs.Remainder.{sorted}
 use Rattle.coder_trips.proofs.sorting.remainder_twice.Goals as goal
 
-pub returns : goal.returns
-returns c =
-    let first = c.remainder-a.ensures in
-    let second = c.remainder-b.ensures in
-    record { wrote_first = first; wrote_second = second; sorted = sorted _ first second }
+pub returns-clause-sorted : goal.returns-clause-sorted
+returns-clause-sorted c = sorted _ c.remainder-a.ensures c.remainder-b.ensures

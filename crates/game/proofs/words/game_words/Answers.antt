@@ -3,6 +3,7 @@
 use mathlib.Core.Path.{sym, ◌∙◌}
 use native.Mathlib.Omega.{arith}
 use lib.Seq.{length-take-le}
+use Rattle.std.proofs.lemmas.Result.{err_from_is_err_and}
 use Rattle.spec_book.proofs.Inputs.{words_high}
 use Rattle.book.proofs.Described.{params_sizes}
 use Rattle.burst.proofs.Working.{burst_small}
@@ -16,19 +17,20 @@ overflow_sub-k c = degree_le c.requires.0
 pub order-q-requires : goal.order-q-requires
 order-q-requires c = (params_sizes _ _ c.requires.0).p_high
 
-pub words_refusal-number-requires : goal.words_refusal-number-requires
-words_refusal-number-requires c =
+pub words_refusal-requires : goal.words_refusal-requires
+words_refusal-requires c =
     let s = params_sizes _ _ c.requires.0 in
     (s.n_high, omega (arith, s.n_high))
 
-pub returns-then-number-ne0 : goal.returns-then-number-ne0
-returns-then-number-ne0 c =
-    games_refused _ _ _ _ (game_number _ _ c.requires.0 _ _ _ c.words_refusal-number.ensures c.order-q.ensures) c.if-number-ne0.true
+pub returns-in_err-words_refusal : goal.returns-in_err-words_refusal
+returns-in_err-words_refusal c =
+    let p = err_from_is_err_and c.from_residual.result c.from_residual.ensures.1 in
+    rw (p.1, p.2) (games_refused _ _ _ _ _ (game_number _ _ c.requires.0 _ _ _ c.in_err-words_refusal.ensures c.order-q.ensures))
 
 pub overflow_mul-size : goal.overflow_mul-size
 overflow_mul-size c =
     let h = c.requires in
-    let taken = game_taken _ _ h.0 _ _ _ c.words_refusal-number.ensures c.order-q.ensures c.if-number-ne0.false in
+    let taken = game_taken _ _ h.0 _ _ _ c.in_ok-words_refusal.ensures c.order-q.ensures in
     omega (arith, burst_small (params_sizes _ _ h.0).n_high (words_high _ taken.count))
 
 pub matrix_size-matrix-requires : goal.matrix_size-matrix-requires
@@ -37,13 +39,13 @@ matrix_size-matrix-requires c = let s = params_sizes _ _ c.requires.0 in (s.p_hi
 pub slice_bounds-take_words-end : goal.slice_bounds-take_words-end
 slice_bounds-take_words-end c =
     let h = c.requires in
-    let taken = game_taken _ _ h.0 _ _ _ c.words_refusal-number.ensures c.order-q.ensures c.if-number-ne0.false in
+    let taken = game_taken _ _ h.0 _ _ _ c.in_ok-words_refusal.ensures c.order-q.ensures in
     answers_fit _ h.0.accepted _ _ taken _ h.0 h.3
 
 pub slice_bounds-take_words-end-2 : goal.slice_bounds-take_words-end-2
 slice_bounds-take_words-end-2 c =
     let h = c.requires in
-    let taken = game_taken _ _ h.0 _ _ _ c.words_refusal-number.ensures c.order-q.ensures c.if-number-ne0.false in
+    let taken = game_taken _ _ h.0 _ _ _ c.in_ok-words_refusal.ensures c.order-q.ensures in
     sym (length-take-le _ _ (answers_fit _ h.0.accepted _ _ taken _ h.0 h.3))
 
 pub slice_bounds-take_words-end-3 : goal.slice_bounds-take_words-end-3
@@ -55,18 +57,15 @@ slice_bounds-take_words-end-4 c = let h = c.requires in sym (length-take-le _ _ 
 pub take_words-requires : goal.take_words-requires
 take_words-requires c =
     let h = c.requires in
-    let z = c.if-number-ne0.false in
-    let number = game_number _ _ h.0 _ _ _ c.words_refusal-number.ensures c.order-q.ensures in
-    let taken = game_taken _ _ h.0 _ _ _ c.words_refusal-number.ensures c.order-q.ensures z in (
+    let asked = c.in_ok-words_refusal.ensures in
+    let taken = game_taken _ _ h.0 _ _ _ asked c.order-q.ensures in (
       h.0,
       h.1,
       h.2,
       length-take-le _ _ (answers_fit _ h.0.accepted _ _ taken _ h.0 h.3),
       length-take-le _ _ (matrix_fits _ _ h.0 h.4 c.matrix_size-matrix.ensures) ∙ c.matrix_size-matrix.ensures,
-      sym number ∙ z,
+      sym (game_number _ _ h.0 _ _ _ asked c.order-q.ensures),
     )
 
 pub returns : goal.returns
-returns c =
-    let number = game_number _ _ c.requires.0 _ _ _ c.words_refusal-number.ensures c.order-q.ensures in
-    games_same (sym c.if-number-ne0.false ∙ number) c.take_words.ensures
+returns c = games_same (game_number _ _ c.requires.0 _ _ _ c.in_ok-words_refusal.ensures c.order-q.ensures) c.take_words.ensures

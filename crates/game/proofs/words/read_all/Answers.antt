@@ -8,7 +8,7 @@ use native.Mathlib.Omega.{arith}
 use Rattle.spec_word.proofs.Mixed.{part_taken}
 use Rattle.book.proofs.Described.{params_sizes}
 use Rattle.burst.proofs.Working.{part_end, part_within}
-use Rattle.game.proofs.Reading.{degree_le, k_high, none_yet, one_more, all_read}
+use Rattle.game.proofs.Reading.{degree_le, k_high, none_yet, word_read, one_more, all_read}
 use Rattle.game.proofs.words.read_all.Goals as goal
 
 pub overflow_sub-k : goal.overflow_sub-k
@@ -38,7 +38,16 @@ overflow_add-to c =
     omega (arith, part_end c.loop-m.m _ c.loop-m-test.true (k_high h.0.open_book.describes) h.1)
 
 pub read_word-requires : goal.read_word-requires
-read_word-requires c = c.requires.0
+read_word-requires c = record { bytes = c.requires.0.bytes; open_book = c.requires.0.open_book }
+
+pub unwrap-requires : goal.unwrap-requires
+unwrap-requires c =
+    let n = c.args.c.n in
+    let m = c.loop-m.m in
+    let below = c.loop-m-test.true in
+    let whole : m * n + n - m * n ≡ n = omega arith in
+    let word = ap (λ (k : ℕ). take k (drop (m * n) c.args.answers.now)) whole ∙ part_taken n c.args.answers.now m (part_within m _ below c.requires.2) in
+    word_read _ _ _ _ c.args.messages.now c.requires.0 below _ word (omega arith) c.read_word.ensures
 
 pub loop-m-preserved : goal.loop-m-preserved
 loop-m-preserved c =
