@@ -26,6 +26,7 @@ pub record MatrixBound (bytes : List ℕ) (size : ℕ) : Type 0 where
 -- a room of so many entries holds the matrix, as long as it is known to be
 pub record MatrixFits (bytes : List ℕ) (entries : ℕ) : Type 0 where
   pub fits : (size : ℕ) → MatrixBound bytes size → size ≤ entries
+  pub most : entries ≤ 4080
 
 -- what the conditions 5 to 8 are asked of: c was read off readable bytes, and t is the table of the generator's multiples
 pub record Gathered (bytes : List ℕ) (c : Params) (t : List ℕ) : Type 0 where

@@ -3,5 +3,5 @@
 use native.Mathlib.Omega.{arith}
 use Rattle.packing.proofs.pack_checked.Goals as goal
 
-pub returns-in-Accepted : goal.returns-in-Accepted
-returns-in-Accepted c = rw c.in-Accepted.is (omega arith)
+pub returns-in-Ok : goal.returns-in-Ok
+returns-in-Ok c = rw c.in-Ok.is (omega (arith, c.from.ensures))

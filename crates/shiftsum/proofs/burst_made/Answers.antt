@@ -1,25 +1,14 @@
--- `shiftsum::burst_made` meets its contract: whichever room is taken, what is made is the same definition's.
+-- `shiftsum::burst_made` meets its contract: the room is what the book asks.
 -- Assumes nothing.
-use mathlib.Core.Path.{sym, ◌∙◌}
+use mathlib.Core.Path.{sym}
+use Rattle.shiftsum.proofs.Room.{any_matrix, few_matrix, few_short_matrix}
 use Rattle.shiftsum.proofs.burst_made.Goals as goal
 
-pub burst_long_few-requires : goal.burst_long_few-requires
-burst_long_few-requires c = sym c.few_symbols-few.ensures ∙ c.if-few.true
+pub burst_in-requires : goal.burst_in-requires
+burst_in-requires c = any_matrix _
 
-pub returns-then-few : goal.returns-then-few
-returns-then-few c = c.burst_long_few.ensures
+pub burst_in-requires-2 : goal.burst_in-requires-2
+burst_in-requires-2 c = few_short_matrix _ (sym c.if-not-few_symbols.ensures) (sym c.if-is_long.ensures)
 
-pub returns-then-is_long : goal.returns-then-is_long
-returns-then-is_long c = c.burst_long.ensures
-
-pub burst_few-requires : goal.burst_few-requires
-burst_few-requires c = (sym c.few_symbols-few.ensures ∙ c.if-few-2.true, sym c.is_long.ensures ∙ c.if-is_long.false)
-
-pub returns-then-few-2 : goal.returns-then-few-2
-returns-then-few-2 c = c.burst_few.ensures
-
-pub burst_short-requires : goal.burst_short-requires
-burst_short-requires c = sym c.is_long.ensures ∙ c.if-is_long.false
-
-pub returns : goal.returns
-returns c = c.burst_short.ensures
+pub burst_in-requires-then-is_long : goal.burst_in-requires-then-is_long
+burst_in-requires-then-is_long c = few_matrix _ (sym c.if-not-few_symbols.ensures)

@@ -6,5 +6,5 @@ use Rattle.shiftsum.proofs.shiftsum_read.Goals as goal
 
 pub returns : goal.returns
 returns c =
-    let h = c.read-done.ensures in
+    let h = c.read.ensures in
     record { returns = c.pack_done.ensures ∙ ap result_of h.says; buffer = h.buffer }

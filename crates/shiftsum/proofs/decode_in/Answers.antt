@@ -1,0 +1,11 @@
+-- `shiftsum::decode_in` meets its contract.
+-- Assumes nothing.
+use native.Mathlib.Omega.{arith}
+use Rattle.shiftsum.proofs.Room.{lent, decoded_into}
+use Rattle.shiftsum.proofs.decode_in.Goals as goal
+
+pub whole_as_front-decode : goal.whole_as_front-decode
+whole_as_front-decode g c = (c.requires.fits _ c.matrix_bound-size.ensures, omega (arith, c.requires.most))
+
+pub returns : goal.returns
+returns g c = decoded_into _ _ _ (lent c.requires c.matrix_bound-size.ensures) c.decode.ensures c.pack_decoded.ensures
