@@ -19,13 +19,6 @@ const ENTRIES: u32 = 65536;
 // The largest of them.
 const MOST: u16 = 65535;
 
-// The larger of two numbers.
-fn larger(a: u16, b: u16) -> u16
-    ensures { result ≡ max a b }
-{
-    if a < b { b } else { a }
-}
-
 // The symbol of a column after the row of one more symbol, whose entry is x: 0 where x only equals the peak so far.
 fn holder(count: u16, symbol: u8, x: u16, row: u8) -> u8
     ensures { result ≡ climbed count symbol x row }
@@ -48,7 +41,7 @@ fn take_row(row: &[u16], symbol: u8, counts: &mut [u16; WIDTH], symbols: &mut [u
     for j in 0..n {
         let x = row[j];
         let count = counts[j];
-        counts[j] = larger(count, x);
+        counts[j] = count.max(x);
         symbols[j] = holder(count, symbols[j], x, symbol);
     }
 }
@@ -109,7 +102,7 @@ fn largest(n: usize, a: &[u16]) -> u16
 {
     let mut most: u16 = 0;
     for j in 0..n {
-        most = larger(most, a[j]);
+        most = most.max(a[j]);
     }
     most
 }

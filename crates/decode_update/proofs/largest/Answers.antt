@@ -12,7 +12,7 @@ loop-j-init c = (search rules, λ k l. absurd (not-suc-le-zero l))
 pub loop-j-preserved : goal.loop-j-preserved
 loop-j-preserved c =
     let i = c.loop-j.invariant in
-    let e = c.larger-most.ensures in
+    let e = c.max-most.ensures in
     (search rules, below_more _ _ (λ k l. omega (arith, i.1 k l, e)) (omega (arith, e)))
 
 pub returns : goal.returns
