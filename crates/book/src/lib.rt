@@ -61,7 +61,7 @@ pub fn matrix_bound(book: &[u8]) -> usize
     if most_digits(book) < p {
         return 0;
     }
-    sizes::wide(field::order(p)) * book_records::word_length(s)
+    usize::from(field::order(p)) * book_records::word_length(s)
 }
 
 // The largest s of a book's form, and the largest p.
@@ -100,7 +100,7 @@ fn open_readable(book: &[u8], t: &mut [u8]) -> Result<Params, Refusal>
         n,
         degree: generator::degree(book, n),
         rounds: book[limits + 1],
-        places: sizes::wide(book[limits + 2]),
+        places: usize::from(book[limits + 2]),
         duals: book_records::dual_count(book),
     };
     conditions::refusal(book, c, t)?;

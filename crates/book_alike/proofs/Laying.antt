@@ -41,22 +41,34 @@ shift_high n = go (length_of n)
     go (two a _ b f) = omega (arith, f)
     go (four a b f) = omega (arith, f)
 
--- as many rows as 1024 places have room for, or as are left
-pub rows_taken : (n : ℕ) {s k : ℕ} (left : ℕ) → s ≡ shift n → k ≡ min (1024 / 2 ^ s) left → (k ≤ left) × (stride n * k ≤ 1024) × (1 ≤ left → 1 ≤ k)
+-- so that 1024 places have room for one
+pub rows_some : (n : ℕ) {s : ℕ} → s ≡ shift n → 0 < 1024 / 2 ^ s
+rows_some n {s} e = go (length_of n)
+  where
+    some : {x : ℕ} → shift n ≡ x → 0 < 1024 / 2 ^ x → 0 < 1024 / 2 ^ s
+    some f = subst (λ (x : ℕ). 0 < 1024 / 2 ^ x) (sym (e ∙ f))
+
+    go : Length n → 0 < 1024 / 2 ^ s
+    go (one a b f) = some f (omega arith)
+    go (two a _ b f) = some f (omega arith)
+    go (four a b f) = some f (omega arith)
+
+-- as many rows as there is room for, or as are left
+pub rows_taken : (n : ℕ) {s k : ℕ} (left : ℕ) → s ≡ shift n → k ≡ min (1024 / 2 ^ s) left → (k ≤ left) × (stride n * k ≤ 1024)
 rows_taken n {k = k} left e h = go (length_of n)
   where
-    few : (most : ℕ) → k ≡ min most left → 1 ≤ most → stride n * most ≤ 1024 → (k ≤ left) × (stride n * k ≤ 1024) × (1 ≤ left → 1 ≤ k)
-    few most h low fits =
+    few : (most : ℕ) → k ≡ min most left → stride n * most ≤ 1024 → (k ≤ left) × (stride n * k ≤ 1024)
+    few most h fits =
         let l : k ≤ most = omega arith in
-        (omega arith, omega (arith, mul-le-mul_left (stride n) l), λ pos. omega arith)
+        (omega arith, omega (arith, mul-le-mul_left (stride n) l))
 
     taken : {x : ℕ} → shift n ≡ x → k ≡ min (1024 / 2 ^ x) left
     taken f = h ∙ ap (λ (s : ℕ). min (1024 / 2 ^ s) left) (e ∙ f)
 
-    go : Length n → (k ≤ left) × (stride n * k ≤ 1024) × (1 ≤ left → 1 ≤ k)
-    go (one a b f) = few 8 (taken f) (omega arith) (omega (arith, b))
-    go (two a _ b f) = few 4 (taken f) (omega arith) (omega (arith, b))
-    go (four a b f) = few 2 (taken f) (omega arith) (omega (arith, b))
+    go : Length n → (k ≤ left) × (stride n * k ≤ 1024)
+    go (one a b f) = few 8 (taken f) (omega (arith, b))
+    go (two a _ b f) = few 4 (taken f) (omega (arith, b))
+    go (four a b f) = few 2 (taken f) (omega (arith, b))
 
 -- row i of k
 pub row_within : (n : ℕ) {b i k size : ℕ} → b ≡ blocks n → i < k → stride n * k ≤ size → 128 * b * i + 128 * b ≤ size
@@ -84,10 +96,10 @@ module _ (bytes : List ℕ) (n : ℕ) where
   pub signed_none : Signed bytes n 0 (replicate 32 0)
   signed_none = record { long = length-replicate {A = ℕ} 32 0; signed = λ l b. absurd (not-suc-le-zero b) }
 
-  pub signed_more : {stride l k : ℕ} {rows₀ rows s₀ s : List ℕ} → Signed bytes n l s₀ → Rows stride bytes n l k rows₀ rows
-      → Window l k (λ i. signature_of n (λ j. place rows (stride * i + j))) s₀ s → Signed bytes n (l + k) s
-  signed_more {l = l} {k} {rows₀} {rows} {s₀} {s} before laid now =
-      record { long = now.long ∙ before.long; signed = λ m b. go m b (dec_lt m l) }
+  pub signed_more : {stride l k m : ℕ} {rows₀ rows s₀ s : List ℕ} → m ≡ l + k → Signed bytes n l s₀ → Rows stride bytes n l k rows₀ rows
+      → Window l k (λ i. signature_of n (λ j. place rows (stride * i + j))) s₀ s → Signed bytes n m s
+  signed_more {l = l} {k} {m} {rows₀} {rows} {s₀} {s} e before laid now =
+      record { long = now.long ∙ before.long; signed = λ i b. go i (omega arith) (dec_lt i l) }
     where
       go : (m : ℕ) → m < l + k → Dec (m < l) → place s m ≡ signature_of n (dual_word n bytes m)
       go m b (yes c) = now.low m c ∙ before.signed m c

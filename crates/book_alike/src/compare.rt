@@ -24,13 +24,10 @@ fn like_earlier(p: u8, n: usize, book: &[u8], s: &[u16], l: usize, t: &[u8]) -> 
     requires { Comparable book.now p n (l + 1) × Signed book.now n (l + 1) s.now × TableOf book.now p n l t.now }
     ensures { not result ≡ differ p n book.now l }
 {
-    let mut m = 0;
-    while m < l {
-        let next = m + 1;
+    for m in 0..l {
         if pair_alike(p, n, book, s, l, m, t) {
             return true;
         }
-        m = next;
     }
     false
 }

@@ -8,6 +8,8 @@ ghost use Rattle.sizes.specs.Blocks.{stride};
 ghost use Rattle.book_alike.specs.Signed.{Signed};
 ghost use Rattle.book_alike.specs.Compared.{differ, Comparable};
 
+use sizes::TABLE;
+
 mod compare;
 mod signature;
 
@@ -23,7 +25,7 @@ pub fn distinct_ok(p: u8, n: usize, book: &[u8], duals: usize) -> bool
     if signature::all_differ(duals, &s) {
         return true;
     }
-    let mut t = word_table::table_room();
+    let mut t = [0u8; TABLE];
     pairs_ok(p, n, book, duals, &s, &mut t)
 }
 
@@ -32,12 +34,10 @@ fn pairs_ok(p: u8, n: usize, book: &[u8], duals: usize, s: &[u16], t: &mut [u8])
     requires { Comparable book.now p n duals × Signed book.now n duals s.now × (stride n * 2 ^ p ≤ length t.old) }
     ensures { result ≡ all duals (differ p n book.now) }
 {
-    let mut l = 0;
-    while l < duals {
+    for l in 0..duals {
         if compare::seen_before(p, n, book, s, l, t) {
             return false;
         }
-        l += 1;
     }
     true
 }

@@ -20,23 +20,14 @@ pub fn signatures(n: usize, book: &[u8], duals: usize) -> [u16; DUALS]
 {
     let inside = word_alike::inside(n);
     let most = ROWS >> sizes::shift(n);
-    let mut rows = rows_room();
+    let mut rows = [0u8; ROWS];
     let mut out = [0u16; DUALS];
-    let mut l = 0;
-    while l < duals {
-        let k = sizes::smaller(most, duals - l);
+    for l in (0..duals).step_by(most) {
+        let k = most.min(duals - l);
         lay(n, book, l, k, &mut rows);
         sign(n, &rows, k, &inside, l, &mut out);
-        l += k;
     }
     out
-}
-
-// Room for the rows.
-fn rows_room() -> [u8; ROWS]
-    ensures { 1024 ≡ length result }
-{
-    [0; ROWS]
 }
 
 // Lays k dual words out, from dual word l on, each twice over in a row of its own.
@@ -45,11 +36,9 @@ fn lay(n: usize, book: &[u8], l: usize, k: usize, rows: &mut [u8])
     ensures { Rows (stride n) book.now n l k rows.old rows.new }
 {
     let stride = 2 * BLOCK * sizes::blocks(n);
-    let mut i = 0;
-    while i < k {
+    for i in 0..k {
         let from = book_layout::dual_at(book, l + i) + 1;
         word_table::lay(n, book, from, stride * i, rows);
-        i += 1;
     }
 }
 
@@ -59,10 +48,8 @@ fn sign(n: usize, rows: &[u8], k: usize, inside: &[u8], l: usize, out: &mut [u16
     ensures { Window l k (λ i. signature_of n (λ j. place rows.now (stride n * i + j))) out.old out.new }
 {
     let blocks = sizes::blocks(n);
-    let mut i = 0;
-    while i < k {
+    for i in 0..k {
         out[l + i] = word_alike::signature(n, blocks, rows, 2 * BLOCK * blocks * i, inside);
-        i += 1;
     }
 }
 
@@ -72,10 +59,8 @@ pub fn all_differ(count: usize, s: &[u16]) -> bool
     ensures { result ≡ eqb (total count (λ l. times_of s.now (place s.now l))) count }
 {
     let mut found: u16 = 0;
-    let mut l = 0;
-    while l < count {
+    for l in 0..count {
         found += times(s, s[l]);
-        l += 1;
     }
     found as usize == count
 }
@@ -86,10 +71,8 @@ fn times(s: &[u16], x: u16) -> u16
     ensures { (result ≡ times_of s.now x) × (result ≤ 32) }
 {
     let mut found: u16 = 0;
-    let mut m = 0;
-    while m < DUALS {
+    for m in 0..DUALS {
         found += (s[m] == x) as u16;
-        m += 1;
     }
     found
 }

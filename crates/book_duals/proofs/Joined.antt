@@ -66,10 +66,10 @@ joined_none n f left z = record { zeros = λ j d. ap (λ (x : ℕ). eqb x 0) (z 
 
 module _ {n : ℕ} {f : ℕ → ℕ → ℕ} {l : ℕ} {left : List ℕ} (h : Joined n f l left) where
   -- and a word that is zero where f l, .., f (l + k - 1) are
-  pub joined_more : {span k : ℕ} {word left' : List ℕ} → n ≤ span → Zeros n f l k word → Window 0 span (λ j. bit_or (place left j) (place word j)) left left'
-      → Joined n f (l + k) left'
-  joined_more {k = k} {word} fits z w =
-      record {
+  pub joined_more : {span k m : ℕ} {word left' : List ℕ} → n ≤ span → m ≡ l + k → Zeros n f l k word
+      → Window 0 span (λ j. bit_or (place left j) (place word j)) left left' → Joined n f m left'
+  joined_more {k = k} {word = word} {left'} fits e z w =
+      subst (λ (m : ℕ). Joined n f m left') (sym e) record {
         zeros = λ j d.
             ap (λ (x : ℕ). eqb x 0) (window_at w j (omega arith)) ∙ or_zero (place left j) (place word j) ∙ ap₂ ◌&&◌ (h.zeros j d) (z.zeros j d)
             ∙ sym (fold-parts ◌&&◌ true tests l k (λ l. eqb (f l j) 0));

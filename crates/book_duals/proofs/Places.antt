@@ -21,6 +21,11 @@ dual_period n bytes l j = ap (body_place bytes (dual_at (width bytes) l)) (add-m
 pub dual_room : (bytes : List ℕ) {l duals : ℕ} → dual_at (width bytes) duals ≤ length bytes → l < duals → dual_at (width bytes) l + (1 + width bytes) ≤ length bytes
 dual_room bytes h b = omega (arith, dual_apart (width bytes) b)
 
+-- the same where it starts at `start`
+pub dual_fits : (bytes : List ℕ) {l duals start : ℕ} → dual_at (width bytes) duals ≤ length bytes → l < duals → start ≡ dual_at (width bytes) l
+    → start + (1 + width bytes) ≤ length bytes
+dual_fits bytes h b e = omega (arith, dual_room bytes h b)
+
 -- a place below n, where the word starts at `start`
 pub dual_at_lem : {n start : ℕ} (bytes : List ℕ) (l : ℕ) → start ≡ dual_at (width bytes) l + 1 → (j : ℕ) → j < n → place bytes (start + j) ≡ dual_word n bytes l j
 unfolding dual_word

@@ -26,13 +26,11 @@ pub fn weights_ok(book: &[u8], n: usize, duals: usize) -> bool
     let blocks = sizes::blocks(n);
     let wanted = weight_at(blocks, book, book_layout::dual_at(book, 0));
     let mut ok = true;
-    let mut l = 0;
-    while l < duals {
+    for l in 0..duals {
         let start = book_layout::dual_at(book, l);
         ok &= book[start + 1] == 1;
         let weight = weight_at(blocks, book, start);
         ok &= weight == wanted;
-        l += 1;
     }
     ok
 }
@@ -43,10 +41,8 @@ fn weight_at(blocks: usize, book: &[u8], start: usize) -> u16
     ensures { result ≡ count (64 * blocks) (λ j. nonzero (place book.now (start + j))) }
 {
     let mut count: u16 = 0;
-    let mut b = 0;
-    while b < blocks {
+    for b in 0..blocks {
         count += weight_block(book, start + BLOCK * b) as u16;
-        b += 1;
     }
     count
 }
@@ -57,10 +53,8 @@ fn weight_block(book: &[u8], from: usize) -> u8
     ensures { (result ≡ count 64 (λ j. nonzero (place book.now (from + j)))) × (result ≤ 64) }
 {
     let mut count: u8 = 0;
-    let mut j = 0;
-    while j < BLOCK {
+    for j in 0..BLOCK {
         count += (book[from + j] != 0) as u8;
-        j += 1;
     }
     count
 }
@@ -82,10 +76,8 @@ pub fn join(blocks: usize, word: &[u8], left: &mut [u8])
     requires { (64 * blocks ≤ length word.now) × (64 * blocks ≤ length left.old) }
     ensures { Window 0 (64 * blocks) (λ j. bit_or (place left.old j) (place word.now j)) left.old left.new }
 {
-    let mut b = 0;
-    while b < blocks {
+    for b in 0..blocks {
         join_block(word, BLOCK * b, left);
-        b += 1;
     }
 }
 
@@ -95,9 +87,7 @@ fn join_block(word: &[u8], at: usize, left: &mut [u8])
     ensures { Window at 64 (λ j. bit_or (place left.old (at + j)) (place word.now (at + j)))
         left.old left.new }
 {
-    let mut j = 0;
-    while j < BLOCK {
+    for j in 0..BLOCK {
         left[at + j] = left[at + j] | word[at + j];
-        j += 1;
     }
 }

@@ -13,7 +13,7 @@ ghost use Rattle.spec_book.specs.Layout.{width, dual_at};
 ghost use Rattle.book_duals.specs.Duals.{dual_product, product_ok, Zeros, Tested};
 ghost use Rattle.book_duals.specs.Lanes.{lanes, low_digits, other_digits, double_all, packed_at};
 
-use sizes::{BLOCK, SPAN};
+use sizes::{BLOCK, FEW_TABLE, SPAN, TABLE};
 
 // Whether all products are zero. Rooms are small where words are short: to clear more costs time.
 pub fn products_vanish(p: u8, n: usize, book: &[u8], duals: usize) -> bool
@@ -21,14 +21,25 @@ pub fn products_vanish(p: u8, n: usize, book: &[u8], duals: usize) -> bool
     ensures { result ≡ all duals (product_ok p n book.now) }
 {
     if n < BLOCK {
-        let mut t = word_table::few_table_room();
-        let mut product = [0u8; BLOCK];
-        let mut left = [0u8; BLOCK];
-        return vanish_in(p, n, book, duals, &mut t, &mut product, &mut left);
+        vanish_with::<FEW_TABLE, BLOCK>(p, n, book, duals)
+    } else {
+        vanish_with::<TABLE, SPAN>(p, n, book, duals)
     }
-    let mut t = word_table::table_room();
-    let mut product = [0u8; SPAN];
-    let mut left = [0u8; SPAN];
+}
+
+// The same with room for a table and for words of so many places.
+fn vanish_with<const TABLE: usize, const PLACES: usize>(
+    p: u8,
+    n: usize,
+    book: &[u8],
+    duals: usize,
+) -> bool
+    requires { Tested book.now p n duals × (p ≤ 3) × (stride n * 2 ^ p ≤ TABLE) × (span n ≤ PLACES) × (TABLE ≤ 8192) × (PLACES ≤ 256) }
+    ensures { result ≡ all duals (product_ok p n book.now) }
+{
+    let mut t = [0u8; TABLE];
+    let mut product = [0u8; PLACES];
+    let mut left = [0u8; PLACES];
     vanish_in(p, n, book, duals, &mut t, &mut product, &mut left)
 }
 
@@ -46,14 +57,12 @@ fn vanish_in(
         × ((j : ℕ) → j < n → place left.old j ≡ 0) }
     ensures { result ≡ all duals (product_ok p n book.now) }
 {
-    let most = sizes::wide(8 / p);
+    let most = usize::from(8 / p);
     let blocks = sizes::blocks(n);
-    let mut l = 0;
-    while l < duals {
-        let k = sizes::smaller(most, duals - l);
+    for l in (0..duals).step_by(most) {
+        let k = most.min(duals - l);
         product_of(p, n, book, l, k, t, product);
         crate::join(blocks, product, left);
-        l += k;
     }
     word_array::is_zero(n, left)
 }
@@ -75,11 +84,9 @@ fn packed(p: u8, n: usize, book: &[u8], l: usize, k: usize, out: &mut [u8])
     ensures { Window 0 (span n) (packed_at p book.now l k) out.old out.new }
 {
     let blocks = sizes::blocks(n);
-    let mut b = 0;
-    while b < blocks {
+    for b in 0..blocks {
         let block = packed_block(p, book, l, k, BLOCK * b);
         word_table::put_block(block, BLOCK * b, out);
-        b += 1;
     }
 }
 
@@ -90,8 +97,7 @@ fn packed_block(p: u8, book: &[u8], l: usize, k: usize, at: usize) -> [u8; BLOCK
 {
     let mut out = [0u8; BLOCK];
     let mut shift: u8 = 0;
-    let mut i = 0;
-    while i < k {
+    for i in 0..k {
         pack(
             book,
             book_layout::dual_at(book, l + i) + at,
@@ -99,7 +105,6 @@ fn packed_block(p: u8, book: &[u8], l: usize, k: usize, at: usize) -> [u8; BLOCK
             &mut out,
         );
         shift += p;
-        i += 1;
     }
     out
 }
@@ -109,10 +114,8 @@ fn pack(book: &[u8], start: usize, shift: u8, out: &mut [u8; BLOCK])
     requires { (shift < 8) × (start + 64 ≤ length book.now) × (length out.old ≡ 64) }
     ensures { out.new ≡ table 64 (λ j. bit_xor (place out.old j) (place book.now (start + j) * 2 ^ shift % 256)) }
 {
-    let mut j = 0;
-    while j < BLOCK {
+    for j in 0..BLOCK {
         out[j] = out[j] ^ (book[start + j] << shift);
-        j += 1;
     }
 }
 
@@ -124,13 +127,11 @@ fn multiples(p: u8, n: usize, w: &[u8], t: &mut [u8])
         × ((i : ℕ) → i < 9 → Tabled (stride n) p n (λ j. lane p i (place w.now (1 + j))) (lanes p i t.old) (lanes p i t.new)) }
 {
     let blocks = sizes::blocks(n);
-    let q = sizes::wide(field::order(p));
+    let q = usize::from(field::order(p));
     word_table::put_first_rows(n, w, 1, t);
-    let mut c: usize = 1;
-    while 2 * c < q {
+    for c in 1..q / 2 {
         double_row(p, blocks, c, t);
         word_table::put_next(blocks, c, t);
-        c += 1;
     }
 }
 
@@ -141,11 +142,9 @@ fn double_row(p: u8, blocks: usize, c: usize, t: &mut [u8])
 {
     let from = 2 * BLOCK * blocks * c;
     let to = 2 * BLOCK * blocks * (2 * c);
-    let mut b = 0;
-    while b < 2 * blocks {
+    for b in 0..2 * blocks {
         let row = word_table::block(t, from + BLOCK * b);
         double_block(p, row, to + BLOCK * b, t);
-        b += 1;
     }
 }
 
@@ -158,13 +157,11 @@ fn double_block(p: u8, row: [u8; BLOCK], to: usize, t: &mut [u8])
     let ones = low_digits(p);
     let others = other_digits(p);
     let up = p - 1;
-    let mut j = 0;
-    while j < BLOCK {
+    for j in 0..BLOCK {
         let x = row[j];
         let top = (x >> up) & ones;
         let rest = x & others;
         t[to + j] = (rest + rest) ^ (top * 3);
-        j += 1;
     }
 }
 

@@ -14,8 +14,7 @@ pub fn products_vanish(p: u8, n: usize, book: &[u8], duals: usize, t: &[u8]) -> 
     let blocks = sizes::blocks(n);
     let mut left = [0u8; SPAN];
     let mut product = [0u8; SPAN];
-    let mut l = 0;
-    while l < duals {
+    for l in 0..duals {
         word_table::product(
             n,
             n,
@@ -25,7 +24,6 @@ pub fn products_vanish(p: u8, n: usize, book: &[u8], duals: usize, t: &[u8]) -> 
             &mut product,
         );
         crate::join(blocks, &product, &mut left);
-        l += 1;
     }
     word_array::is_zero(n, &left)
 }

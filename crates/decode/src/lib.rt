@@ -28,7 +28,7 @@ pub fn matrix_size(p: u8, n: usize) -> usize
     requires { (p ≤ 6) × (n ≤ 255) }
     ensures { result ≡ 2 ^ p * n }
 {
-    sizes::wide(field::order(p)) * n
+    usize::from(field::order(p)) * n
 }
 
 // Whether an answer and a matrix have their exact sizes.

@@ -12,7 +12,7 @@ pub fn put(p: u8, room: &mut [u16])
     requires { (1 ≤ p) × (p ≤ 6) × (powers_end ≤ length room.old) }
     ensures { PowersPut p room.old room.new }
 {
-    let round = sizes::wide(field::order(p)) - 1;
+    let round = usize::from(field::order(p)) - 1;
     room[0] = 0;
     let mut symbol: u8 = 1;
     for e in 0..round {

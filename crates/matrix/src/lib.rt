@@ -15,10 +15,8 @@ pub fn clear(m: &mut [u16])
     ensures { m.new ≡ table (length m.old) (λ k. 0) }
 {
     let size = m.len();
-    let mut k = 0;
-    while k < size {
+    for k in 0..size {
         m[k] = 0;
-        k += 1;
     }
 }
 

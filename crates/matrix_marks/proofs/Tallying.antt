@@ -3,7 +3,7 @@
 use mathlib.Core.Path.{◌≡◌, sym, ap, ◌∙◌, subst}
 use mathlib.Core.List.{List}
 use Prim.Native.Nat.{ℕ, ◌+◌, ◌-◌, ◌*◌, ◌^◌, ◌≤◌, ◌<◌}
-use native.Mathlib.Nat.{le_of_eq, le_trans, mul-le-mul}
+use native.Mathlib.Nat.{le_of_eq, mul-le-mul}
 use native.Mathlib.Omega.{arith}
 use lib.ListN.{length, replicate, length-replicate}
 use Rattle.spec_range.specs.Fold.{total}
@@ -18,22 +18,29 @@ use Rattle.word_table.proofs.Tables.{word_of_period}
 use Rattle.matrix_terms.specs.Count.{dual_counts}
 use Rattle.matrix_terms.specs.Terms.{term, Terms, RowOf, TermsOf, terms_at, weight_in}
 use Rattle.matrix_terms.proofs.Whole.{RowsFilled, terms_weight}
-use Rattle.matrix_marks.specs.Marks.{terms_from, term_counts, Turned, Counted, Tallied, Rooms, Countable, Gatherable, Gathered}
+use Rattle.matrix_marks.specs.Marks.{terms_from, term_counts, Turned, Counted, Tallied, Rooms, RoomsFit, Countable, Gatherable, Gathered}
 use Rattle.matrix_marks.proofs.Dual.{terms-count}
 
--- rooms for at most q symbols and x blocks
+-- room for at most q symbols and x blocks
 module _ (p q : ℕ) (few : 2 ^ p ≤ q) (n x : ℕ) (fits : blocks n ≤ x) where
   pub table_fits : stride n * 2 ^ p ≤ 128 * x * q
   table_fits = mul-le-mul {n₁ = stride n} {m₁ = 2 ^ p} {n₂ = 128 * x} {m₂ = q} (omega arith) few
 
-  pub rooms : {v c : List ℕ} → 128 * x * (2 * (q - 1)) ≤ length v → c ≡ replicate (64 * x * q) 0 → Rooms (stride n) (span n) p v c
-  rooms {v} {c} long e =
+  pub rooms_fit : RoomsFit (stride n) (span n) p (128 * x * (2 * (q - 1))) (64 * x * q)
+  rooms_fit =
       record {
-        marks_long = le_trans (mul-le-mul {n₁ = stride n} {m₁ = 2 * (2 ^ p - 1)} {n₂ = 128 * x} {m₂ = 2 * (q - 1)} (omega arith) (omega (arith, few))) long;
-        counts_long = le_trans (mul-le-mul {n₁ = span n} {m₁ = 2 ^ p - 1} {n₂ = 64 * x} {m₂ = q} (omega arith) (omega (arith, few)))
-            (le_of_eq (sym (ap length e ∙ length-replicate {A = ℕ} (64 * x * q) 0)));
-        zeros = λ k. ap (λ (c : List ℕ). place c k) e ∙ zero_at (64 * x * q) k;
+        marks_fit = mul-le-mul {n₁ = stride n} {m₁ = 2 * (2 ^ p - 1)} {n₂ = 128 * x} {m₂ = 2 * (q - 1)} (omega arith) (omega (arith, few));
+        counters_fit = mul-le-mul {n₁ = span n} {m₁ = 2 ^ p - 1} {n₂ = 64 * x} {m₂ = q} (omega arith) (omega (arith, few));
       }
+
+-- rooms that suffice, all zeros
+pub rooms : {stride span p marks counters : ℕ} → RoomsFit stride span p marks counters → Rooms stride span p (replicate marks 0) (replicate counters 0)
+rooms {marks = marks} {counters = counters} fit =
+    record {
+      marks_long = omega (arith, fit.marks_fit, length-replicate {A = ℕ} marks 0);
+      counts_long = omega (arith, fit.counters_fit, length-replicate {A = ℕ} counters 0);
+      zeros = zero_at counters;
+    }
 
 -- no dual word is counted
 pub tallied_none : {stride span p n duals : ℕ} {terms v : List ℕ} {r : ℕ → ℕ} {c : List ℕ} → Rooms stride span p v c

@@ -10,7 +10,6 @@ use native.Mathlib.Decide.{dec_lt}
 use native.Mathlib.Omega.{arith}
 use lib.Dec.{eqb}
 use lib.ListN.{length}
-use lib.Pow.{pow_pos}
 use Rattle.spec_range.specs.Fold.{indicator}
 use Rattle.spec_range.proofs.Fold.{fold_cong}
 use Rattle.spec_range.proofs.Count.{fold_le}
@@ -83,13 +82,13 @@ turned_markable {stride} {p = p} rows ok size most-rows =
       fits = ok.fits;
       within = omega (arith, ok.powers_long);
       word = ok.word;
-      long = le_trans (mul-le-mul_left {m = rows} {n = 2 * (2 ^ p - 1)} stride (omega (arith, pow_pos p))) ok.marks_long;
+      long = le_trans (mul-le-mul_left {m = rows} {n = 2 * (2 ^ p - 1)} stride (omega arith)) ok.marks_long;
       byte = λ e l. omega (arith, ok.power_at e (omega arith), power_below p ok.sizes.p_low ok.sizes.p_high e);
     }
 
 module _ {stride span p n : ℕ} {w terms : List ℕ} {from weight : ℕ} {v₀ c₀ v : List ℕ} {q rows : ℕ}
-    (ok : Turned stride span p n w terms from weight v₀ c₀) (marked : Marked stride span n rows (powers_in terms) w v)
-    (enough : 2 * (q - 1) ≤ rows) (size : q ≡ 2 ^ p) where
+    (ok : Turned stride span p n w terms from weight v₀ c₀) (marked : Marked stride span n rows (powers_in terms) w v) (size : q ≡ 2 ^ p)
+    (enough : 2 * (q - 1) ≤ rows) where
   -- a term is an offset of rows and of places
   split : (e i j : ℕ)
       → stride * e + terms_from terms from i + j ≡ stride * (e + terms_from terms from i / stride) + (terms_from terms from i % stride + j)

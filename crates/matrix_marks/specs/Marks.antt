@@ -93,6 +93,11 @@ pub record Rooms (stride span p : ℕ) (v c : List ℕ) : Type 0 where
   pub counts_long : span * (2 ^ p - 1) ≤ length c
   pub zeros : (k : ℕ) → place c k ≡ 0
 
+-- rooms of so many marks and so many counters suffice
+pub record RoomsFit (stride span p marks counters : ℕ) : Type 0 where
+  pub marks_fit : stride * (2 * (2 ^ p - 1)) ≤ marks
+  pub counters_fit : span * (2 ^ p - 1) ≤ counters
+
 -- what counting all dual words asks, t being the table of the received word's multiples
 pub record Countable (stride span p n duals : ℕ) (terms t v c : List ℕ) : Type 0 where
   pub words : ℕ → ℕ → ℕ

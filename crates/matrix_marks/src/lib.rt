@@ -2,7 +2,7 @@
 // that power. Dividing by a symbol is an offset of rows, and turning is an offset of places, so that the counters are sums of marks.
 #![tactic(auto)]
 
-ghost use Rattle.std.specs.Prelude.{◌≡◌, ℕ, ◌+◌, ◌*◌, ◌^◌, ◌≤◌, ◌<◌, eqb, length, replicate};
+ghost use Rattle.std.specs.Prelude.{◌≡◌, ℕ, ◌+◌, ◌*◌, ◌^◌, ◌≤◌, ◌<◌, eqb, length};
 ghost use Rattle.spec_range.specs.Fold.{indicator};
 ghost use Rattle.spec_range.specs.Table.{table};
 ghost use Rattle.spec_word.specs.Word.{at};
@@ -13,7 +13,7 @@ ghost use Rattle.word_table.specs.Window.{Window};
 ghost use Rattle.matrix_terms.specs.Count.{counted};
 ghost use Rattle.matrix_terms.specs.Terms.{TermsOf, Filling};
 ghost use Rattle.matrix_marks.specs.Marks.{powers_in, Markable, Marked, Addable, marks_of, Summable, terms_from, term_counts, Turned, Counted, Tallied};
-ghost use Rattle.matrix_marks.specs.Marks.{Countable, Gatherable, Gathered, Rooms};
+ghost use Rattle.matrix_marks.specs.Marks.{Countable, Gatherable, Gathered, Rooms, RoomsFit};
 
 use field_powers::POWERS_AT;
 use matrix_terms::{TERMS_AT, WEIGHT_AT};
@@ -37,10 +37,8 @@ fn marked(w: [u8; BLOCK], s: u8) -> [u8; BLOCK]
     ensures { result ≡ table 64 (λ j. indicator (eqb (place w j) s)) }
 {
     let mut out = [0u8; BLOCK];
-    let mut j = 0;
-    while j < BLOCK {
+    for j in 0..BLOCK {
         out[j] = (w[j] == s) as u8;
-        j += 1;
     }
     out
 }
@@ -50,11 +48,9 @@ fn mark(blocks: usize, w: &[u8], s: u8, to: usize, v: &mut [u8])
     requires { (64 * blocks ≤ length w.now) × (to + 64 * blocks ≤ length v.old) }
     ensures { Window to (64 * blocks) (λ j. indicator (eqb (place w.now j) s)) v.old v.new }
 {
-    let mut b = 0;
-    while b < blocks {
+    for b in 0..blocks {
         let m = marked(word_table::block(w, BLOCK * b), s);
         word_table::put_block(m, to + BLOCK * b, v);
-        b += 1;
     }
 }
 
@@ -63,13 +59,11 @@ fn mark_rows(n: usize, blocks: usize, rows: usize, terms: &[u16], w: &[u8], v: &
     requires { Markable (128 * blocks) (64 * blocks) n rows terms.now w.now v.old }
     ensures { Marked (128 * blocks) (64 * blocks) n rows (powers_in terms.now) w.now v.new }
 {
-    let mut e = 0;
-    while e < rows {
+    for e in 0..rows {
         let s = terms[POWERS_AT + e] as u8;
         let to = 2 * BLOCK * blocks * e;
         mark(blocks, w, s, to, v);
         mark(blocks, w, s, to + n, v);
-        e += 1;
     }
 }
 
@@ -78,10 +72,8 @@ fn add_marks(v: &[u8], from: usize, row: &mut [u8; BLOCK])
     requires { Addable 64 v.now from row.old }
     ensures { row.new ≡ table 64 (λ j. place row.old j + place v.now (from + j)) }
 {
-    let mut j = 0;
-    while j < BLOCK {
+    for j in 0..BLOCK {
         row[j] += v[from + j];
-        j += 1;
     }
 }
 
@@ -91,10 +83,8 @@ fn count_block(v: &[u8], start: usize, terms: &[u16], from: usize, weight: usize
     ensures { result ≡ table 64 (marks_of v.now start terms.now from weight) }
 {
     let mut row = [0u8; BLOCK];
-    let mut i = 0;
-    while i < weight {
+    for i in 0..weight {
         add_marks(v, start + (terms[from + i] as usize), &mut row);
-        i += 1;
     }
     row
 }
@@ -104,10 +94,8 @@ fn raise(row: [u8; BLOCK], to: usize, counts: &mut [u16])
     requires { (to + 64 ≤ length counts.old) × ((j : ℕ) → j < 64 → place counts.old (to + j) ≤ 65280) }
     ensures { Window to 64 (λ j. place counts.old (to + j) + place row j) counts.old counts.new }
 {
-    let mut j = 0;
-    while j < BLOCK {
+    for j in 0..BLOCK {
         counts[to + j] += row[j] as u16;
-        j += 1;
     }
 }
 
@@ -127,11 +115,9 @@ fn count_row(
     ensures { Window to (64 * blocks) (λ j. place counts.old (to + j) + marks_of v.now start terms.now from weight j)
         counts.old counts.new }
 {
-    let mut b = 0;
-    while b < blocks {
+    for b in 0..blocks {
         let row = count_block(v, start + BLOCK * b, terms, from, weight);
         raise(row, to + BLOCK * b, counts);
-        b += 1;
     }
 }
 
@@ -151,10 +137,9 @@ fn count_dual(
     ensures { Counted (64 * blocks) p n (term_counts (128 * blocks) p (at n w.now) (terms_from terms.now from) weight)
         counts.old counts.new }
 {
-    let rows = sizes::wide(field::order(p)) - 1;
+    let rows = usize::from(field::order(p)) - 1;
     mark_rows(n, blocks, 2 * rows, terms, w, v);
-    let mut e = 0;
-    while e < rows {
+    for e in 0..rows {
         count_row(
             blocks,
             v,
@@ -165,7 +150,6 @@ fn count_dual(
             BLOCK * blocks * e,
             counts,
         );
-        e += 1;
     }
 }
 
@@ -174,10 +158,8 @@ fn gather_row(n: usize, to: usize, from: usize, counts: &[u16], m: &mut [u16])
     requires { (to + n ≤ length m.old) × (from + n ≤ length counts.now) }
     ensures { Window to n (λ j. place counts.now (from + j)) m.old m.new }
 {
-    let mut j = 0;
-    while j < n {
+    for j in 0..n {
         m[to + j] = counts[from + j];
-        j += 1;
     }
 }
 
@@ -186,19 +168,10 @@ fn gather(p: u8, n: usize, blocks: usize, terms: &[u16], counts: &[u16], m: &mut
     requires { Gatherable (64 * blocks) p n terms.now counts.now m.old }
     ensures { Gathered (64 * blocks) p n terms.now counts.now m.new }
 {
-    let q = sizes::wide(field::order(p));
-    let mut i: usize = 1;
-    while i < q {
+    let q = usize::from(field::order(p));
+    for i in 1..q {
         gather_row(n, i * n, BLOCK * blocks * (terms[i] as usize), counts, m);
-        i += 1;
     }
-}
-
-// Room for the product of a dual word and the received word.
-fn product_room() -> [u8; SPAN]
-    ensures { 256 ≡ length result }
-{
-    [0; SPAN]
 }
 
 // Counts the dual words. t is the table of the received word's multiples, and v room for marks.
@@ -216,9 +189,8 @@ fn count_duals(
 {
     let weight = terms[WEIGHT_AT] as usize;
     let blocks = sizes::blocks(n);
-    let mut w = product_room();
-    let mut l = 0;
-    while l < duals {
+    let mut w = [0u8; SPAN];
+    for l in 0..duals {
         matrix_terms::product(l, p, n, duals, terms, t, &mut w);
         count_dual(
             p,
@@ -231,15 +203,7 @@ fn count_duals(
             v,
             counts,
         );
-        l += 1;
     }
-}
-
-// Room for the table of a word's multiples, short or long.
-fn multiples_room() -> [u8; MULTIPLES]
-    ensures { 2048 ≡ length result }
-{
-    [0; MULTIPLES]
 }
 
 // Fills the matrix in lent rooms for the marks and the counters, which are zero. The table has its room here, where it takes no stack of the other way to
@@ -258,57 +222,28 @@ fn fill_in(
         × Rooms (stride n) (span n) p v.old counts.old }
     ensures { (b : ℕ → ℕ → ℕ) → TermsOf (stride n) p n duals b terms.now → m.new ≡ counted p n b duals (at n r.now) }
 {
-    let mut t = multiples_room();
+    let mut t = [0u8; MULTIPLES];
     word_table::tabulate(p, n, r, 0, &mut t);
     count_duals(p, n, duals, terms, &t, v, counts);
     gather(p, n, sizes::blocks(n), terms, counts, m);
     matrix_terms::row_zero(p, n, (duals as u16) * terms[WEIGHT_AT], m);
 }
 
-// Room for the marks of a dual word.
-fn mark_room() -> [u8; MARKS]
-    ensures { 1792 ≡ length result }
-{
-    [0; MARKS]
-}
-
-// Counters, all zero.
-fn counters() -> [u16; COUNTERS]
-    ensures { result ≡ replicate 512 0 }
-{
-    [0; COUNTERS]
-}
-
-// The same for longer words.
-fn long_mark_room() -> [u8; LONG_MARKS]
-    ensures { 3072 ≡ length result }
-{
-    [0; LONG_MARKS]
-}
-
-fn long_counters() -> [u16; LONG_COUNTERS]
-    ensures { result ≡ replicate 1024 0 }
-{
-    [0; LONG_COUNTERS]
-}
-
-// Fills the matrix of a word of a single block: to clear more room costs time.
-fn fill_short(p: u8, n: usize, duals: usize, terms: &[u16], r: &[u8], m: &mut [u16])
-    requires { Filling (stride n) p n duals terms.now r.now m.old × (p ≤ 3) × (n < 64) }
+// Fills the matrix with room for so many marks and counters: to clear more room costs time.
+fn fill_with<const MARKS: usize, const COUNTERS: usize>(
+    p: u8,
+    n: usize,
+    duals: usize,
+    terms: &[u16],
+    r: &[u8],
+    m: &mut [u16],
+)
+    requires { Filling (stride n) p n duals terms.now r.now m.old × (stride n * 2 ^ p ≤ 2048) × RoomsFit (stride n) (span n) p MARKS COUNTERS
+        × (MARKS + 2 * COUNTERS ≤ 65536) }
     ensures { (b : ℕ → ℕ → ℕ) → TermsOf (stride n) p n duals b terms.now → m.new ≡ counted p n b duals (at n r.now) }
 {
-    let mut v = mark_room();
-    let mut counts = counters();
-    fill_in(p, n, duals, terms, r, &mut v, &mut counts, m);
-}
-
-// The same of a longer word.
-fn fill_long(p: u8, n: usize, duals: usize, terms: &[u16], r: &[u8], m: &mut [u16])
-    requires { Filling (stride n) p n duals terms.now r.now m.old × (p ≤ 2) }
-    ensures { (b : ℕ → ℕ → ℕ) → TermsOf (stride n) p n duals b terms.now → m.new ≡ counted p n b duals (at n r.now) }
-{
-    let mut v = long_mark_room();
-    let mut counts = long_counters();
+    let mut v = [0u8; MARKS];
+    let mut counts = [0u16; COUNTERS];
     fill_in(p, n, duals, terms, r, &mut v, &mut counts, m);
 }
 
@@ -318,8 +253,8 @@ pub fn fill(p: u8, n: usize, duals: usize, terms: &[u16], r: &[u8], m: &mut [u16
     ensures { (b : ℕ → ℕ → ℕ) → TermsOf (stride n) p n duals b terms.now → m.new ≡ counted p n b duals (at n r.now) }
 {
     if n < BLOCK {
-        fill_short(p, n, duals, terms, r, m);
+        fill_with::<MARKS, COUNTERS>(p, n, duals, terms, r, m);
     } else {
-        fill_long(p, n, duals, terms, r, m);
+        fill_with::<LONG_MARKS, LONG_COUNTERS>(p, n, duals, terms, r, m);
     }
 }

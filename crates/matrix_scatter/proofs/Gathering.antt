@@ -1,6 +1,6 @@
 -- The rows of the matrix from 1 on, gathered one after another.
 -- Assumes nothing.
-use mathlib.Core.Path.{◌≡◌, refl, sym, ap₂, ◌∙◌, subst}
+use mathlib.Core.Path.{◌≡◌, refl, sym, ap, ◌∙◌, subst}
 use mathlib.Core.Logic.{⊎_elim}
 use mathlib.Core.List.{List}
 use Prim.Native.Nat.{ℕ, ◌+◌, ◌-◌, ◌*◌, ◌^◌, ◌≤◌, ◌<◌}
@@ -12,7 +12,7 @@ use lib.ListN.{length}
 use Rattle.word_array.specs.Stored.{place, Sizes}
 use Rattle.word_table.specs.Window.{Window}
 use Rattle.matrix_terms.proofs.Received.{order_low}
-use Rattle.matrix_scatter.specs.Scatter.{Logged, RowGathered, both_rows, Gathered}
+use Rattle.matrix_scatter.specs.Scatter.{RowGathered, Gatherable, both_rows, Gathered}
 
 -- a row written whole
 pub row_gathered : {n from low high j : ℕ} {counts m₀ m : List ℕ} → j ≡ n
@@ -37,32 +37,33 @@ module _ {p n : ℕ} {logs counts m₀ m : List ℕ} {i : ℕ} (h : Gathering p 
   pub gathering_end : 2 ^ p ≤ i → Gathered p n logs counts m₀ m
   gathering_end l = record { long = h.long; row = λ d j a b. h.row d j a (omega arith) }
 
-  -- row i is next, whose symbol has the logarithm e
-  module _ (s : Sizes p n) (logged : Logged p logs) {q e : ℕ} (eq : q ≡ 2 ^ p) (l : i < q) (ee : e ≡ place logs i) where
+  -- row i is next, of q
+  module _ (ok : Gatherable p n logs counts m₀) {q : ℕ} (eq : q ≡ 2 ^ p) (l : i < q) where
     below : i < 2 ^ p
     below = omega arith
 
-    -- the logarithm is below 2 ^ p - 1
-    pub log-small : e + 1 < 2 ^ p
-    log-small = omega (arith, ee, logged.log_lt i h.low below)
+    -- the logarithm of its symbol is below 2 ^ p - 1
+    pub log-small : place logs i + 1 < 2 ^ p
+    log-small = ok.logged.log_lt i h.low below
 
     -- the rows lie within
-    pub row_in : length m₀ ≡ 2 ^ p * n → i * n + n ≤ length m
-    row_in f = omega (arith, f, h.long, suc-mul i n, mul-le-mul_right n below)
+    pub row_in : i * n + n ≤ length m
+    row_in = omega (arith, ok.size, h.long, suc-mul i n, mul-le-mul_right n below)
 
     -- so do the counters of both rows
-    pub high-in : {size : ℕ} → (3 * (2 ^ p - 1) + 1) * (n + 1) ≤ size → (e + (q - 1)) * (n + 1) + n ≤ size
-    high-in f =
-        let b : e + (q - 1) < 3 * (2 ^ p - 1) + 1 = omega (arith, log-small, eq) in
-        omega (arith, f, digits_lt {r = n} {c = n + 1} b (omega arith))
+    pub high-in : (place logs i + (q - 1)) * (n + 1) + n ≤ length counts
+    high-in =
+        let b : place logs i + (q - 1) < 3 * (2 ^ p - 1) + 1 = omega (arith, log-small, eq) in
+        omega (arith, ok.long, digits_lt {r = n} {c = n + 1} b (omega arith))
 
-    pub low-in : {size : ℕ} → (3 * (2 ^ p - 1) + 1) * (n + 1) ≤ size → e * (n + 1) + n ≤ size
-    low-in f =
-        let b : e < 3 * (2 ^ p - 1) + 1 = omega (arith, log-small) in
-        omega (arith, f, digits_lt {r = n} {c = n + 1} b (omega arith))
+    pub low-in : place logs i * (n + 1) + n ≤ length counts
+    low-in =
+        let b : place logs i < 3 * (2 ^ p - 1) + 1 = omega (arith, log-small) in
+        omega (arith, ok.long, digits_lt {r = n} {c = n + 1} b (omega arith))
 
     -- one more row
-    pub gathering_more : {m' : List ℕ} → RowGathered n (i * n) (e * (n + 1)) ((e + (q - 1)) * (n + 1)) counts m m' → Gathering p n logs counts m₀ m' (i + 1)
+    pub gathering_more : {m' : List ℕ} → RowGathered n (i * n) (place logs i * (n + 1)) ((place logs i + (q - 1)) * (n + 1)) counts m m'
+        → Gathering p n logs counts m₀ m' (i + 1)
     unfolding both_rows
     gathering_more {m'} t =
         record {
@@ -71,7 +72,7 @@ module _ {p n : ℕ} {logs counts m₀ m : List ℕ} {i : ℕ} (h : Gathering p 
           long = t.long ∙ h.long;
           row = λ d j a b c. ⊎_elim
               (λ x. subst (λ (d : ℕ). place m' (d * n + j) ≡ both_rows p n counts (place logs d) j) (sym x)
-              (t.sum j c ∙ ap₂ (λ (e q : ℕ). place counts (e * (n + 1) + j) + place counts ((e + (q - 1)) * (n + 1) + j)) ee eq))
+              (t.sum j c ∙ ap (λ (q : ℕ). place counts (place logs i * (n + 1) + j) + place counts ((place logs i + (q - 1)) * (n + 1) + j)) eq))
               (λ x. t.below _ (digits_lt x c) ∙ h.row d j a x c)
               (eq-or-lt_of_le (le_of_suc-le-suc (subst (λ (m : ℕ). d < m) (add-one i) b)));
         }

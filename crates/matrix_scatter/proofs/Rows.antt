@@ -1,6 +1,6 @@
 -- The row of each symbol, and where it starts.
 -- Assumes nothing.
-use mathlib.Core.Path.{◌≡◌, refl, sym, ap, ap₂, ◌∙◌}
+use mathlib.Core.Path.{◌≡◌, refl, sym, ap, ◌∙◌}
 use mathlib.Core.Bool.{Bool, not, cond}
 use mathlib.Core.List.{List}
 use Prim.Native.Nat.{ℕ, zero, suc, ◌+◌, ◌-◌, ◌*◌, ◌^◌, ◌≤◌, ◌<◌}
@@ -49,14 +49,13 @@ pub first_le : {p n : ℕ} → Sizes p n → (q : ℕ) → q ≡ 2 ^ p → 2 * (
 first_le s q e = width_le s 2 {a = 2 * (q - 1)} (omega arith)
 
 -- the start of 0 is written
-pub starts_first : (p n : ℕ) {q width : ℕ} (logs : List ℕ) → q ≡ 2 ^ p → width ≡ n + 1
-    → Held 64 1 (start_of p n logs) (set (replicate 64 0) 0 (2 * (q - 1) * width))
-starts_first p n logs e f =
-    held_more _ (omega arith) (ap₂ (λ (q w : ℕ). 2 * (q - 1) * w) e f ∙ ap (λ (x : ℕ). x * (n + 1)) (sym (row_zero p logs))) (held_none 64 (start_of p n logs))
+pub starts_first : (p n : ℕ) {q : ℕ} (logs : List ℕ) → q ≡ 2 ^ p → Held 64 1 (start_of p n logs) (set (replicate 64 0) 0 (2 * (q - 1) * (n + 1)))
+starts_first p n logs e =
+    held_more _ (omega arith) (ap (λ (q : ℕ). 2 * (q - 1) * (n + 1)) e ∙ ap (λ (x : ℕ). x * (n + 1)) (sym (row_zero p logs))) (held_none 64 (start_of p n logs))
 
 -- the start of another
-pub log_start : (p n : ℕ) {width : ℕ} (logs : List ℕ) (c : ℕ) → width ≡ n + 1 → 0 < c → place logs c * width ≡ start_of p n logs c
-log_start p n logs c f l = ap₂ (λ (x w : ℕ). x * w) (sym (row_log p logs c l)) f
+pub log_start : (p n : ℕ) (logs : List ℕ) (c : ℕ) → 0 < c → place logs c * (n + 1) ≡ start_of p n logs c
+log_start p n logs c l = ap (λ (x : ℕ). x * (n + 1)) (sym (row_log p logs c l))
 
 -- all starts are written
 pub starts_end : {p n c : ℕ} {logs out : List ℕ} → Held 64 c (start_of p n logs) out → 2 ^ p ≤ c → RowStarts p n logs out

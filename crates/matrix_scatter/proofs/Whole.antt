@@ -4,8 +4,9 @@ use mathlib.Core.Path.{◌≡◌, sym, ap, ap₂, ◌∙◌}
 use mathlib.Core.List.{List}
 use Prim.Native.Nat.{ℕ, ◌+◌, ◌-◌, ◌*◌, ◌%◌, ◌^◌, ◌≤◌}
 use native.Mathlib.Omega.{arith}
-use lib.ListN.{length}
+use lib.ListN.{replicate, length-replicate}
 use Rattle.spec_range.proofs.Fold.{fold_cong, fold-op, sums}
+use Rattle.spec_range.proofs.Loop.{zero_at}
 use Rattle.spec_word.specs.Word.{at}
 use Rattle.word_array.specs.Stored.{place, Sizes}
 use Rattle.matrix_terms.specs.Terms.{TermsOf, Filling, weight_in}
@@ -26,9 +27,8 @@ pub rows_fit : {p n : ℕ} → Sizes p n → (3 * (2 ^ p - 1) + 1) * (n + 1) ≤
 rows_fit {p} s = width_le s 3 {a = 3 * (2 ^ p - 1) + 1} (omega (arith, order_low s))
 
 -- a room of zeros that is large enough
-pub cleared : {p n size : ℕ} {counts : List ℕ} → (3 * (2 ^ p - 1) + 1) * (n + 1) ≤ size → size ≡ length counts → ((k : ℕ) → place counts k ≡ 0)
-    → Cleared p n counts
-cleared l f z = record { size = omega arith; zero_at = z }
+pub cleared : {p n size : ℕ} → (3 * (2 ^ p - 1) + 1) * (n + 1) ≤ size → Cleared p n (replicate size 0)
+cleared {size = size} l = record { size = omega (arith, length-replicate {A = ℕ} size 0); zero_at = zero_at size }
 
 module _ {stride p n duals : ℕ} {terms r m₀ : List ℕ} where
   -- the dual words can be counted

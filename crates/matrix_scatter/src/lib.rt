@@ -13,40 +13,24 @@ ghost use Rattle.matrix_scatter.specs.Scatter.{Countable, terms_add, RowGathered
 ghost use Rattle.matrix_scatter.specs.Fill.{Cleared, Scattering, Scattered};
 
 use matrix_terms::{TERMS_AT, WEIGHT_AT};
-use sizes::{BLOCK, SPAN, STRIDE, SYMBOLS};
+use sizes::{BLOCK, SPAN, STRIDE, SYMBOLS, TABLE};
 
 // The counters that a room has where they are few.
 const FEW_COUNTERS: usize = 3072;
 // And where they are many.
 const COUNTERS: usize = 12288;
 
-// Counters, where they are few.
-fn small_room() -> [u16; FEW_COUNTERS]
-    ensures { (3072 ≡ length result) × ((k : ℕ) → place result k ≡ 0) }
-{
-    [0; FEW_COUNTERS]
-}
-
-// Counters, where they are many.
-fn large_room() -> [u16; COUNTERS]
-    ensures { (12288 ≡ length result) × ((k : ℕ) → place result k ≡ 0) }
-{
-    [0; COUNTERS]
-}
-
 // Where the counters of each symbol's row start.
 fn row_starts(p: u8, n: usize, terms: &[u16]) -> [u16; SYMBOLS]
     requires { Sizes p n × Logged p terms.now }
     ensures { RowStarts p n terms.now result }
 {
-    let q = sizes::wide(field::order(p));
+    let q = usize::from(field::order(p));
     let width = (n + 1) as u16;
     let mut out = [0u16; SYMBOLS];
     out[0] = 2 * ((q - 1) as u16) * width;
-    let mut c = 1;
-    while c < q {
+    for c in 1..q {
         out[c] = terms[c] * width;
-        c += 1;
     }
     out
 }
@@ -56,12 +40,10 @@ fn offsets(n: usize, starts: [u16; SYMBOLS], w: &[u8], out: &mut [u16])
     requires { (n ≤ 255) × (n ≤ length w.now) × (n + n ≤ length out.old) × Started n starts w.now }
     ensures { Offsets n starts w.now out.old out.new }
 {
-    let mut j = 0;
-    while j < n {
+    for j in 0..n {
         let to = starts[w[j] as usize] + (j as u16);
         out[j] = to;
         out[n + j] = to + (n as u16);
-        j += 1;
     }
 }
 
@@ -118,18 +100,16 @@ fn count_dual(l: usize, p: u8, n: usize, cells: &[u16], terms: &[u16], counts: &
     requires { Countable (stride n) l p n cells.now terms.now counts.old }
     ensures { counts.new ≡ raised counts.old (terms_add (stride n) l p n cells.now terms.now) }
 {
-    let last = sizes::wide(field::order(p)) - 1;
+    let last = usize::from(field::order(p)) - 1;
     let weight = terms[WEIGHT_AT] as usize;
     let from = TERMS_AT + BLOCK * sizes::blocks(n) * l;
     let shift = sizes::shift(n);
-    let mut i = 0;
-    while i < weight {
+    for i in 0..weight {
         let t = terms[from + i] as usize;
         let log = t >> shift;
         let h = t - (log << shift);
         let base = (last - log) * (n + 1) - h;
         count_cells(n, cells, h, base, counts);
-        i += 1;
     }
 }
 
@@ -138,10 +118,8 @@ fn gather_row(n: usize, from: usize, low: usize, high: usize, counts: &[u16], m:
     requires { (from + n ≤ length m.old) × (low + n ≤ length counts.now) × (high + n ≤ length counts.now) × ((k : ℕ) → place counts.now k ≤ 8160) }
     ensures { RowGathered n from low high counts.now m.old m.new }
 {
-    let mut j = 0;
-    while j < n {
+    for j in 0..n {
         m[from + j] = counts[low + j] + counts[high + j];
-        j += 1;
     }
 }
 
@@ -150,12 +128,10 @@ fn gather(p: u8, n: usize, terms: &[u16], counts: &[u16], m: &mut [u16])
     requires { Gatherable p n terms.now counts.now m.old }
     ensures { Gathered p n terms.now counts.now m.old m.new }
 {
-    let q = sizes::wide(field::order(p));
-    let mut i = 1;
-    while i < q {
+    let q = usize::from(field::order(p));
+    for i in 1..q {
         let e = terms[i] as usize;
         gather_row(n, i * n, e * (n + 1), (e + (q - 1)) * (n + 1), counts, m);
-        i += 1;
     }
 }
 
@@ -165,16 +141,14 @@ fn count_duals(p: u8, n: usize, duals: usize, terms: &[u16], r: &[u8], counts: &
     ensures { Scattered (stride n) p n duals terms.now r.now counts.new }
 {
     let starts = row_starts(p, n, terms);
-    let mut t = word_table::table_room();
+    let mut t = [0u8; TABLE];
     word_table::tabulate(p, n, r, 0, &mut t);
     let mut w = [0u8; SPAN];
     let mut cells = [0u16; STRIDE];
-    let mut l = 0;
-    while l < duals {
+    for l in 0..duals {
         matrix_terms::product(l, p, n, duals, terms, &t, &mut w);
         offsets(n, starts, &w, &mut cells);
         count_dual(l, p, n, &cells, terms, counts);
-        l += 1;
     }
 }
 
@@ -196,21 +170,20 @@ fn fill_by(
     matrix_terms::row_zero(p, n, (duals as u16) * terms[WEIGHT_AT], m);
 }
 
-// Fills the matrix where counters are few.
-fn fill_few(p: u8, n: usize, duals: usize, terms: &[u16], r: &[u8], m: &mut [u16])
-    requires { Filling (stride n) p n duals terms.now r.now m.old × ((n + 1) % 8 ≡ 0) × ((3 * (2 ^ p - 1) + 1) * (n + 1) ≤ 3072) }
+// Fills the matrix with so many counters: to clear more costs time.
+fn fill_with<const COUNTERS: usize>(
+    p: u8,
+    n: usize,
+    duals: usize,
+    terms: &[u16],
+    r: &[u8],
+    m: &mut [u16],
+)
+    requires { Filling (stride n) p n duals terms.now r.now m.old × ((n + 1) % 8 ≡ 0) × ((3 * (2 ^ p - 1) + 1) * (n + 1) ≤ COUNTERS)
+        × (COUNTERS ≤ 12288) }
     ensures { (b : ℕ → ℕ → ℕ) → TermsOf (stride n) p n duals b terms.now → m.new ≡ counted p n b duals (at n r.now) }
 {
-    let mut counts = small_room();
-    fill_by(p, n, duals, terms, r, &mut counts, m);
-}
-
-// Fills the matrix where counters are many.
-fn fill_many(p: u8, n: usize, duals: usize, terms: &[u16], r: &[u8], m: &mut [u16])
-    requires { Filling (stride n) p n duals terms.now r.now m.old × ((n + 1) % 8 ≡ 0) }
-    ensures { (b : ℕ → ℕ → ℕ) → TermsOf (stride n) p n duals b terms.now → m.new ≡ counted p n b duals (at n r.now) }
-{
-    let mut counts = large_room();
+    let mut counts = [0u16; COUNTERS];
     fill_by(p, n, duals, terms, r, &mut counts, m);
 }
 
@@ -219,10 +192,10 @@ pub fn fill(p: u8, n: usize, duals: usize, terms: &[u16], r: &[u8], m: &mut [u16
     requires { Filling (stride n) p n duals terms.now r.now m.old × ((n + 1) % 8 ≡ 0) }
     ensures { (b : ℕ → ℕ → ℕ) → TermsOf (stride n) p n duals b terms.now → m.new ≡ counted p n b duals (at n r.now) }
 {
-    let rows = 3 * (sizes::wide(field::order(p)) - 1) + 1;
+    let rows = 3 * (usize::from(field::order(p)) - 1) + 1;
     if rows * (n + 1) <= FEW_COUNTERS {
-        fill_few(p, n, duals, terms, r, m);
+        fill_with::<FEW_COUNTERS>(p, n, duals, terms, r, m);
     } else {
-        fill_many(p, n, duals, terms, r, m);
+        fill_with::<COUNTERS>(p, n, duals, terms, r, m);
     }
 }

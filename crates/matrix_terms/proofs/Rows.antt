@@ -15,7 +15,7 @@ use lib.Seq.{get_or-set_same, get_or-set_other}
 use lib.Pow.{pow_pos, pow_mono}
 use mir.Val.{bool_byte}
 use Rattle.spec_word.specs.Word.{nonzero, weight}
-use Rattle.sizes.specs.Blocks.{blocks, span}
+use Rattle.sizes.specs.Blocks.{blocks, span, stride}
 use Rattle.sizes.proofs.Lengths.{blocks_fit}
 use Rattle.word_array.specs.Stored.{place, Sizes}
 use Rattle.word_table.proofs.Rows.{rows_apart}
@@ -102,7 +102,7 @@ module _ {stride n : ℕ} {b : ℕ → ℕ} {from : ℕ} {terms₀ : List ℕ} {
       go z = old (dec_lt i count) z
 
   -- one more place
-  pub written_more : {v : ℕ} → from + n ≤ length terms₀ → v ≡ term_of stride terms₀ b h
+  written_more : {v : ℕ} → from + n ≤ length terms₀ → v ≡ term_of stride terms₀ b h
       → Written stride n b from terms₀ (count + bool_byte (nonzero (b h))) (h + 1) (set terms (from + count) v)
   written_more {v} room e =
       record {
@@ -114,37 +114,50 @@ module _ {stride n : ℕ} {b : ℕ → ℕ} {from : ℕ} {terms₀ : List ℕ} {
         turn_at = λ i d. row_more (term_of stride terms₀ b) from terms s.places free (term_in room) e s.turn_at i (omega (arith, byte_le (nonzero (b h))));
       }
 
--- dual word l, which is read from `start` on, and whose terms are written from `from` on
-module _ {bytes : List ℕ} {p n l start from : ℕ} (ok : DualIn bytes p n l) (starts : start ≡ dual_at (width bytes) l + 1)
-    (goes : from ≡ terms_at + span n * l) where
-  dual-byte : {j : ℕ} → j < n → place bytes (start + j) ≡ dual_of bytes l j
+-- dual word l, which is read from d + 1 on, and whose terms are written behind l rows of x blocks
+module _ {bytes : List ℕ} {p n l d x : ℕ} (ok : DualIn bytes p n l) (starts : d ≡ dual_at (width bytes) l) (e : x ≡ blocks n) where
+  dual-byte : {j : ℕ} → j < n → place bytes (d + 1 + j) ≡ dual_of bytes l j
   unfolding book_of
-  dual-byte {j} d = ap (λ (k : ℕ). place bytes (k + j)) starts
-      ∙ ap (body_place bytes (dual_at (width bytes) l)) (sym (mod-eq_of_lt d) ∙ ap (λ (x : ℕ). j % x) ok.length_is)
+  dual-byte {j} a = ap (λ (k : ℕ). place bytes (k + 1 + j)) starts
+      ∙ ap (body_place bytes (dual_at (width bytes) l)) (sym (mod-eq_of_lt a) ∙ ap (λ (x : ℕ). j % x) ok.length_is)
 
-  dual-symbol : {j : ℕ} → j < n → place bytes (start + j) < 2 ^ p
-  dual-symbol {j} d = subst (λ (x : ℕ). x < 2 ^ p) (sym (dual-byte d)) (ok.symbol j)
+  dual-symbol : {j : ℕ} → j < n → place bytes (d + 1 + j) < 2 ^ p
+  dual-symbol {j} a = subst (λ (x : ℕ). x < 2 ^ p) (sym (dual-byte a)) (ok.symbol j)
 
-  pub dual_small : {j : ℕ} → j < n → place bytes (start + j) < 64
-  dual_small d = let high : 2 ^ p ≤ 2 ^ 6 = pow_mono ok.sizes.p_high in omega (arith, dual-symbol d)
+  pub dual_small : {j : ℕ} → j < n → place bytes (d + 1 + j) < 64
+  dual_small a = let high : 2 ^ p ≤ 2 ^ 6 = pow_mono ok.sizes.p_high in omega (arith, dual-symbol a)
 
-  module _ {stride : ℕ} {terms₀ : List ℕ} {count h : ℕ} {terms : List ℕ} (s : Written stride n (λ j. place bytes (start + j)) from terms₀ count h terms) where
+  goes : terms_at + 64 * x * l ≡ terms_at + span n * l
+  goes = ap (λ (x : ℕ). terms_at + 64 * x * l) e
+
+  -- its row has room for a term at each place
+  pub row_fits : {terms₀ : List ℕ} → RowIn p n l terms₀ → terms_at + 64 * x * l + n ≤ length terms₀
+  row_fits room = omega (arith, goes, room.within, blocks_fit ok.sizes.n_high)
+
+  module _ {terms₀ : List ℕ} {count h : ℕ} {terms : List ℕ}
+      (s : Written (128 * x) n (λ j. place bytes (d + 1 + j)) (terms_at + 64 * x * l) terms₀ count h terms) where
     -- the number read for the next symbol is the one that stood there
-    pub log-kept : h < n → place terms (place bytes (start + h)) ≡ place terms₀ (place bytes (start + h))
-    log-kept d = s.low _ (omega (arith, dual_small d))
+    log-kept : h < n → place terms (place bytes (d + 1 + h)) ≡ place terms₀ (place bytes (d + 1 + h))
+    log-kept a = s.low _ (omega (arith, dual_small a))
 
     -- and it is small
-    number_small : RowIn p n l terms₀ → h < n → place terms (place bytes (start + h)) < 2 ^ p
-    number_small room d = subst (λ (x : ℕ). x < 2 ^ p) (sym (log-kept d)) (room.small _ (dual-symbol d))
+    number_small : RowIn p n l terms₀ → h < n → place terms (place bytes (d + 1 + h)) < 2 ^ p
+    number_small room a = subst (λ (x : ℕ). x < 2 ^ p) (sym (log-kept a)) (room.small _ (dual-symbol a))
 
     -- so that its term is
-    pub term-small : RowIn p n l terms₀ → h < n → {x : ℕ} → x ≡ blocks n → 128 * x * place terms (place bytes (start + h)) + 128 * x ≤ 8192
-    term-small room d {x} e = subst (λ (y : ℕ). 128 * y * place terms (place bytes (start + h)) + 128 * y ≤ 8192) (sym e)
-        (le_trans (rows_apart (128 * blocks n) (number_small room d)) (table_le ok.sizes))
+    pub term-small : RowIn p n l terms₀ → h < n → 128 * x * place terms (place bytes (d + 1 + h)) + 128 * x ≤ 8192
+    term-small room a = subst (λ (y : ℕ). 128 * y * place terms (place bytes (d + 1 + h)) + 128 * y ≤ 8192) (sym e)
+        (le_trans (rows_apart (128 * blocks n) (number_small room a)) (table_le ok.sizes))
+
+    -- one more place
+    pub dual_more : RowIn p n l terms₀ → h < n
+        → Written (128 * x) n (λ j. place bytes (d + 1 + j)) (terms_at + 64 * x * l) terms₀ (count + bool_byte (nonzero (place bytes (d + 1 + h)))) (h + 1)
+        (set terms (terms_at + 64 * x * l + count) (128 * x * place terms (place bytes (d + 1 + h)) + h))
+    dual_more room a = written_more s a (row_fits room) (ap (λ (y : ℕ). 128 * x * y + h) (log-kept a))
 
     -- a place listed is below n
     low : n ≤ h → (i : ℕ) → i < count → place s.places i < n
-    low end i d = omega (arith, s.listing.place_lt i d, s.listing.within)
+    low end i a = omega (arith, s.listing.place_lt i a, s.listing.within)
 
     -- the places listed are those of the dual word
     listed : n ≤ h → Places n (dual_of bytes l) count
@@ -153,24 +166,23 @@ module _ {bytes : List ℕ} {p n l start from : ℕ} (ok : DualIn bytes p n l) (
           place_at = place s.places;
           few = omega (arith, s.listing.count_le, s.listing.within);
           place_lt = low end;
-          symbol_pos = λ i d. subst (λ (x : ℕ). 0 < x) (dual-byte (low end i d)) (s.symbol_pos i d);
-          folds = listing_end s.listing end (λ j d. dual-byte d);
+          symbol_pos = λ i a. subst (λ (x : ℕ). 0 < x) (dual-byte (low end i a)) (s.symbol_pos i a);
+          folds = listing_end s.listing end (λ j a. dual-byte a);
         }
 
     -- after the last place
-    pub written-end : n ≤ h → DualListed stride bytes n l count terms₀ terms
+    pub written-end : n ≤ h → DualListed (stride n) bytes n l count terms₀ terms
     unfolding listed
-    written-end end =
-        record {
-          long = s.long;
-          low = λ k d. s.low k (omega arith);
-          turns_of = record {
-            places = listed end;
-            turn_at = λ i d.
-                ap (λ (k : ℕ). place terms (k + i)) (sym goes) ∙ s.turn_at i d
-                ∙ ap (λ (x : ℕ). stride * place terms₀ x + place s.places i) (dual-byte (low end i d));
-          };
-        }
+    written-end end = subst (λ (y : ℕ). DualListed (128 * y) bytes n l count terms₀ terms) e (record {
+      long = s.long;
+      low = λ k a. s.low k (omega (arith, goes));
+      turns_of = record {
+        places = listed end;
+        turn_at = λ i a.
+            ap (λ (k : ℕ). place terms (k + i)) (sym goes) ∙ s.turn_at i a
+            ∙ ap (λ (y : ℕ). 128 * x * place terms₀ y + place s.places i) (dual-byte (low end i a));
+      };
+    })
 
 -- ---- a room by its rows
 

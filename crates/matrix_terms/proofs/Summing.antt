@@ -11,8 +11,6 @@ use lib.Bits.{bit_and, bit_xor, xor_zero_r, and_mask}
 use lib.ListN.{length, replicate, length-replicate}
 use lib.Pow.{pow_mono}
 use lib.Seq.{ext_get_or}
-use mir.Syntax.{w16, w64}
-use mir.Val.{Fits}
 use Rattle.spec_range.specs.Fold.{fold}
 use Rattle.spec_range.specs.Table.{table}
 use Rattle.spec_range.proofs.Fold.{fold_cong}
@@ -37,10 +35,6 @@ use Rattle.field_powers.proofs.Laws.{power_below}
 use Rattle.matrix_terms.specs.Terms.{Terms, RowOf, term, terms_at, weight_in}
 use Rattle.matrix_terms.specs.Sums.{start_of, terms_sum, Summands}
 use Rattle.matrix_terms.proofs.Digits.{log_of, place_of}
-
--- a 16-bit number is an index
-pub wide_fits : {x : ℕ} → Fits w16 x → Fits w64 x
-wide_fits f = record { fits = omega (arith, f.fits) }
 
 -- rows have at most 2 ^ 9 places
 pub shift_high : (n : ℕ) → shift n ≤ 9

@@ -19,24 +19,10 @@ use sizes::{BLOCK, DUALS, SPAN};
 pub const WEIGHT_AT: usize = 0;
 // Where it has the terms of the first dual word.
 pub const TERMS_AT: usize = POWERS_AT + 2 * BLOCK;
-// How many numbers a room has where words take a single block, and where they are longer.
+// How many numbers a room has where words take a single block, and where they are longer. In one that is all zeros nothing is listed yet.
 pub const TERMS: usize = TERMS_AT + BLOCK * DUALS;
 
 pub const LONG_TERMS: usize = TERMS_AT + SPAN * DUALS;
-
-// A room in which nothing is listed yet.
-pub fn room() -> [u16; TERMS]
-    ensures { (2240 ≡ length result) × (place result 0 ≡ 0) }
-{
-    [0; TERMS]
-}
-
-// The same for longer words.
-pub fn long_room() -> [u16; LONG_TERMS]
-    ensures { (8384 ≡ length result) × (place result 0 ≡ 0) }
-{
-    [0; LONG_TERMS]
-}
 
 // Puts the terms of dual word l into its row: that of each place is written, and stays where its symbol is not zero and the count goes on.
 fn list_dual(book: &[u8], p: u8, n: usize, l: usize, terms: &mut [u16]) -> usize
@@ -48,12 +34,10 @@ fn list_dual(book: &[u8], p: u8, n: usize, l: usize, terms: &mut [u16]) -> usize
     let from = TERMS_AT + BLOCK * blocks * l;
     let stride = (2 * BLOCK * blocks) as u16;
     let mut count: usize = 0;
-    let mut h = 0;
-    while h < n {
+    for h in 0..n {
         let c = book[start + h];
         terms[from + count] = stride * terms[c as usize] + (h as u16);
         count += (c != 0) as usize;
-        h += 1;
     }
     count
 }
@@ -66,10 +50,8 @@ pub fn list(book: &[u8], p: u8, n: usize, duals: usize, terms: &mut [u16])
 {
     field_powers::put(p, terms);
     let mut weight: usize = 0;
-    let mut l = 0;
-    while l < duals {
+    for l in 0..duals {
         weight = list_dual(book, p, n, l, terms);
-        l += 1;
     }
     terms[WEIGHT_AT] = weight as u16;
 }
@@ -101,12 +83,10 @@ fn product_block(
     let weight = terms[WEIGHT_AT] as usize;
     let stride = 2 * BLOCK * blocks;
     let mut sum = [0u8; BLOCK];
-    let mut i = 0;
-    while i < weight {
+    for i in 0..weight {
         let term = terms[from + i] as usize;
         let c = terms[POWERS_AT + (term >> shift)] as usize;
         word_table::add_block(t, stride * c + (n - (term & (stride - 1))) + at, &mut sum);
-        i += 1;
     }
     sum
 }
@@ -120,11 +100,9 @@ pub fn product(l: usize, p: u8, n: usize, duals: usize, terms: &[u16], t: &[u8],
     let blocks = sizes::blocks(n);
     let shift = sizes::shift(n);
     let from = TERMS_AT + BLOCK * blocks * l;
-    let mut b = 0;
-    while b < blocks {
+    for b in 0..blocks {
         let sum = product_block(n, blocks, shift, from, terms, t, BLOCK * b);
         word_table::put_block(sum, BLOCK * b, w);
-        b += 1;
     }
 }
 
@@ -133,10 +111,8 @@ fn subtract_row(n: usize, from: usize, m: &[u16], left: &mut [u16; SPAN])
     requires { Covers n from m.now left.old }
     ensures { Subtracted n from m.now left.old left.new }
 {
-    let mut j = 0;
-    while j < n {
+    for j in 0..n {
         left[j] -= m[from + j];
-        j += 1;
     }
 }
 
@@ -145,12 +121,10 @@ fn rest(p: u8, n: usize, all: u16, m: &[u16]) -> [u16; SPAN]
     requires { Sizes p n × (length m.now ≡ 2 ^ p * n) × ((j : ℕ) → j < n → total (2 ^ p - 1) (λ i. place m.now ((1 + i) * n + j)) ≤ all) }
     ensures { (j : ℕ) → j < n → place result j ≡ all - total (2 ^ p - 1) (λ i. place m.now ((1 + i) * n + j)) }
 {
-    let rows = sizes::wide(field::order(p)) - 1;
+    let rows = usize::from(field::order(p)) - 1;
     let mut left = [all; SPAN];
-    let mut i = 0;
-    while i < rows {
+    for i in 0..rows {
         subtract_row(n, (1 + i) * n, m, &mut left);
-        i += 1;
     }
     left
 }
@@ -160,10 +134,8 @@ fn put_row(n: usize, row: [u16; SPAN], m: &mut [u16])
     requires { (n ≤ 255) × (n ≤ length m.old) }
     ensures { m.new ≡ table (length m.old) (λ k. cond (ltb k n) (place row k) (place m.old k)) }
 {
-    let mut j = 0;
-    while j < n {
+    for j in 0..n {
         m[j] = row[j];
-        j += 1;
     }
 }
 

@@ -1,7 +1,7 @@
 // The sizes of words, tables, matrices and books, each named once.
 #![tactic(auto)]
 
-ghost use Rattle.std.specs.Prelude.{◌≡◌, ◌*◌, ◌/◌, ◌<◌, min, ltb};
+ghost use Rattle.std.specs.Prelude.{◌≡◌, ◌*◌, ◌/◌, ◌<◌, ltb};
 ghost use Rattle.sizes.specs.Blocks.{blocks, shift};
 
 // The places of the longest word.
@@ -88,23 +88,9 @@ pub fn digits_below(k: usize) -> usize
     8 * k
 }
 
-// A byte as an index.
-pub fn wide(x: u8) -> usize
-    ensures { result ≡ x }
-{
-    x as usize
-}
-
 // Whether symbols are few: 8 at most. Rooms are then small, and loops over all symbols short.
 pub fn few(p: u8) -> bool
     ensures { result ≡ ltb p 4 }
 {
     p < 4
-}
-
-// The smaller of two numbers.
-pub fn smaller(a: usize, b: usize) -> usize
-    ensures { result ≡ min a b }
-{
-    if a < b { a } else { b }
 }

@@ -13,7 +13,7 @@ use Rattle.spec_program.specs.Machine.{coming, judged, verdict}
 use Rattle.spec_program.proofs.Opening.{verdict_short_field, verdict_too_long, verdict_short_book, verdict_whole_book}
 use Rattle.stream_state.specs.State.{wanted_of}
 
-module _ (field : List ℕ) (got : ℕ) (size : length field ≡ 2) (got_le : got ≤ 2) where
+module _ (field : List ℕ) (got : ℕ) (two : length field ≡ 2) (got_le : got ≤ 2) where
   short-came : got < 2 → length (take got field) < 2
   short-came h = omega (arith, length-take-le got field (omega arith))
 
@@ -27,13 +27,14 @@ module _ (field : List ℕ) (got : ℕ) (size : length field ≡ 2) (got_le : go
   unfolding wanted_of
   wanted_none h = rw (lt-ltb (length (take got field)) 2 (short-came h))
 
-  pub wanted_too_long : 2 ≤ got → 8454 < book_length field → wanted_of (take got field) ≡ 0
-  unfolding wanted_of
-  wanted_too_long h l = rw (whole-came h, le-ltb (length field) 2 (omega arith), lt-ltb 8454 (book_length field) l)
+  module _ (h : 2 ≤ got) {size : ℕ} (size-is : size ≡ book_length field) where
+    pub wanted_too_long : 8454 < size → wanted_of (take got field) ≡ 0
+    unfolding wanted_of
+    wanted_too_long l = rw (whole-came h, le-ltb (length field) 2 (omega arith), lt-ltb 8454 (book_length field) (omega arith))
 
-  pub wanted_all : 2 ≤ got → book_length field ≤ 8454 → wanted_of (take got field) ≡ book_length field
-  unfolding wanted_of
-  wanted_all h l = rw (whole-came h, le-ltb (length field) 2 (omega arith), le-ltb 8454 (book_length field) l)
+    pub wanted_all : size ≤ 8454 → wanted_of (take got field) ≡ size
+    unfolding wanted_of
+    wanted_all l = rw (whole-came h, le-ltb (length field) 2 (omega arith), le-ltb 8454 (book_length field) (omega arith)) (sym size-is)
 
   -- ---- what is told
 
@@ -41,14 +42,15 @@ module _ (field : List ℕ) (got : ℕ) (size : length field ≡ 2) (got_le : go
     pub told-short-field : got < 2 → verdict (take got field) book ≡ coming
     told-short-field h = verdict_short_field (take got field) book (short-came h)
 
-    module _ (h : 2 ≤ got) where
-      pub told-too-long : 8454 < book_length field → verdict (take got field) book ≡ judged 1
-      told-too-long l = ap (λ (f : List ℕ). verdict f book) (whole-came h) ∙ verdict_too_long field book (omega arith) l
+    module _ (h : 2 ≤ got) {size : ℕ} (size-is : size ≡ book_length field) where
+      pub told-too-long : 8454 < size → verdict (take got field) book ≡ judged 1
+      told-too-long l = ap (λ (f : List ℕ). verdict f book) (whole-came h) ∙ verdict_too_long field book (omega arith) (omega arith)
 
-      pub told-short-book : book_length field ≤ 8454 → length book < book_length field → verdict (take got field) book ≡ coming
-      told-short-book l b = ap (λ (f : List ℕ). verdict f book) (whole-came h) ∙ verdict_short_book field book (omega arith) l b
+      pub told-short-book : size ≤ 8454 → length book < size → verdict (take got field) book ≡ coming
+      told-short-book l b = ap (λ (f : List ℕ). verdict f book) (whole-came h) ∙ verdict_short_book field book (omega arith) (omega arith) (omega arith)
 
-      pub told-whole-book : {number : ℕ} → book_length field ≤ 8454 → book_length field ≤ length book → number ≡ refusal book
-          → verdict (take got field) book ≡ judged number
+      pub told-whole-book : {number : ℕ} → size ≤ 8454 → size ≤ length book → number ≡ refusal book → verdict (take got field) book ≡ judged number
       told-whole-book l b e =
-          ap (λ (f : List ℕ). verdict f book) (whole-came h) ∙ verdict_whole_book field book (omega arith) l b ∙ ap judged (sym e)
+          ap (λ (f : List ℕ). verdict f book) (whole-came h)
+          ∙ verdict_whole_book field book (omega arith) (omega arith) (omega arith)
+          ∙ ap judged (sym e)

@@ -18,11 +18,12 @@ use Rattle.decode_rounds.specs.Rounds.{TermsRoom}
 use Rattle.stream_state.specs.declared.Phase.{Phase}
 use Rattle.stream_state.specs.declared.Phase.TheVariants.{Opening, Answering, Ended}
 use Rattle.stream_state.specs.declared.State.{State}
-use Rattle.stream_open.specs.declared.Judged.{Judged}
-use Rattle.stream_open.specs.declared.Judged.TheVariants.{Coming, Open, Refused}
+use Rattle.std.specs.Prelude.{Some, None, Ok, Err}
+use Rattle.refusal.specs.Number.{number_of}
+use Rattle.refusal.proofs.Numbers.{number-not_zero}
 use Rattle.stream_state.specs.State.{phase_of, field_came, book_came, state_of, wanted_of, Waiting, Sized, Sound}
 use Rattle.stream_state.specs.Part.{Filled}
-use Rattle.stream_open.specs.Opening.{Told, told_text, placed, settled_of, Opens}
+use Rattle.stream_open.specs.Opening.{Judged, Told, told_text, placed, settled_of, Opens}
 use Rattle.stream_open.proofs.Openings.{short_wanted, coming_short, steps-opening, steps-text-opening}
 
 -- nothing is listed yet in a room whose number 0 is 0
@@ -107,25 +108,25 @@ module _ (s : State) (waiting : Waiting s) (sized : Sized s) {piece field : List
     -- what is told of them
     pub taken-state : (told : Judged) {t : List ℕ} → Told field' book' told t → state_of (settled_of s' told) ≡ steps (state_of s) taken
     unfolding state_of
-    taken-state Coming j = sym (after ∙ opened_is (state_of s) field' book' j.judges)
-    taken-state (Open c) j = sym (after ∙ opened_is (state_of s) field' book' j.judges.0)
-    taken-state (Refused number) j =
+    taken-state (Ok None) j = sym (after ∙ opened_is (state_of s) field' book' j.judges)
+    taken-state (Ok (Some c)) j = sym (after ∙ opened_is (state_of s) field' book' j.judges.0)
+    taken-state (Err why) j =
         sym (after ∙ opened_is (state_of s) field' book' j.judges.0 ∙ ap (λ q. record {
           field = field';
           book = book';
           count = s.count;
           begun = (state_of s).begun;
           phase = q;
-        }) (refused_phase number (λ e. omega arith)))
+        }) (refused_phase (number_of why) (number-not_zero why)))
 
     pub taken-text : (told : Judged) {t : List ℕ} → Told field' book' told t → steps_text (state_of s) taken ≡ told_text told
-    taken-text Coming j = after_text ∙ ap verdict_text j.judges
-    taken-text (Open c) j = after_text ∙ ap verdict_text j.judges.0
-    taken-text (Refused number) j = after_text ∙ ap verdict_text j.judges.0 ∙ opening_line number (λ e. omega arith)
+    taken-text (Ok None) j = after_text ∙ ap verdict_text j.judges
+    taken-text (Ok (Some c)) j = after_text ∙ ap verdict_text j.judges.0
+    taken-text (Err why) j = after_text ∙ ap verdict_text j.judges.0 ∙ opening_line (number_of why) (number-not_zero why)
 
     -- all bytes are taken while the opening is still coming
     pub taken-all : (told : Judged) {t : List ℕ} → Told field' book' told t → (settled_of s' told).phase ≡ Opening → head + body ≡ length piece
-    taken-all Coming j e = by_size (dec_lt (s.got + head) 2)
+    taken-all (Ok None) j e = by_size (dec_lt (s.got + head) 2)
       where
         by_size : Dec (s.got + head < 2) → head + body ≡ length piece
         by_size (yes h) = omega (arith, filled.all h, taken-within)
@@ -139,8 +140,8 @@ module _ (s : State) (waiting : Waiting s) (sized : Sized s) {piece field : List
               length-drop head piece,
               filled.joined.within,
             )
-    taken-all (Open c) j e = let z : ◌≡◌ {A = ℕ} 0 1 = cc in absurd (omega arith)
-    taken-all (Refused number) j e = let z : ◌≡◌ {A = ℕ} 0 1 = cc in absurd (omega arith)
+    taken-all (Ok (Some c)) j e = cc
+    taken-all (Err why) j e = cc
 
     -- what the state satisfies
     sized' : (q : Phase) (c : Params) → Sized (placed s' q c)
@@ -156,7 +157,7 @@ module _ (s : State) (waiting : Waiting s) (sized : Sized s) {piece field : List
 
     pub taken-sound : (told : Judged) {t terms : List ℕ} → Told field' book' told t → length t ≡ 8192 → length terms ≡ 8384 → weight_in terms ≡ 0
         → Sound (settled_of s' told) t terms
-    taken-sound Coming j t-size terms_size fresh =
+    taken-sound (Ok None) j t-size terms_size fresh =
         record {
           sized = sized' Opening s.params;
           table_size = t-size;
@@ -169,7 +170,7 @@ module _ (s : State) (waiting : Waiting s) (sized : Sized s) {piece field : List
                 none_held = waiting.none_held;
               };
         }
-    taken-sound (Open c) j t-size terms_size fresh =
+    taken-sound (Ok (Some c)) j t-size terms_size fresh =
         record {
           sized = sized' Answering c;
           table_size = t-size;
@@ -183,7 +184,7 @@ module _ (s : State) (waiting : Waiting s) (sized : Sized s) {piece field : List
                 count_lt = omega (arith, waiting.none_counted);
               };
         }
-    taken-sound (Refused number) j t-size terms_size fresh =
+    taken-sound (Err why) j t-size terms_size fresh =
         record { sized = sized' Ended s.params; table_size = t-size; terms_size = terms_size; in_phase = tt }
 
     -- the whole

@@ -1,4 +1,4 @@
--- The turns of a run: how many are left after one, and that `turns` of them are enough: the run then prints the output of its whole input.
+-- The turns of a run: `turns` of them are enough, and the run then prints the output of its whole input.
 -- Assumes nothing.
 use mathlib.Core.Path.{◌≡◌, refl, sym, ap, subst, ◌∙◌}
 use mathlib.Core.Bool.{Bool, true, false, cond, not, ◌||◌}
@@ -24,25 +24,6 @@ use Rattle.stream_turns.specs.Turns.{piece_size, turns, is_last, turns_left, tur
 pub over_by_phase : (s : State) {p : Phase} → s.phase ≡ p → is_over (state_of s) ≡ over_in (phase_of p)
 unfolding is_over state_of
 over_by_phase s e = ap (λ (p : Phase). over_in (phase_of p)) e
-
--- ---- how many turns are left
-
-module _ (left : ℕ) (sent full over : Bool) where
-  pub left_unsent : not sent ≡ true → 0 ≡ turns_left left sent full over
-  unfolding turns_left
-  left_unsent e = rw e
-
-  pub left_short : not sent ≡ false → not full ≡ true → 0 ≡ turns_left left sent full over
-  unfolding turns_left
-  left_short e f = rw (e, f)
-
-  pub left_over : not sent ≡ false → not full ≡ false → over ≡ true → 0 ≡ turns_left left sent full over
-  unfolding turns_left
-  left_over e f g = rw (e, f, g)
-
-  pub left_more : not sent ≡ false → not full ≡ false → over ≡ false → left - 1 ≡ turns_left left sent full over
-  unfolding turns_left
-  left_more e f g = rw (e, f, g)
 
 -- ---- they are enough
 

@@ -9,7 +9,7 @@ use native.Mathlib.Omega.{arith}
 use lib.Dec.{eqb, leb→le}
 use lib.ListN.{length}
 use Rattle.spec_range.proofs.Tests.{and_left, and_right}
-use Rattle.spec_field.specs.Answer.{answer, or_else, left}
+use Rattle.spec_field.specs.Answer.{Answer, answer, or_else, left}
 use Rattle.spec_book.specs.Layout.{field_of, book_of}
 use Rattle.spec_book.specs.Conditions.{limits_ok, refusal}
 use Rattle.spec_book.proofs.Sound.{sound}
@@ -19,29 +19,31 @@ use Rattle.spec_decoding.specs.Decode.{Result}
 use Rattle.spec_decoding.proofs.Matrix.{matrix-length}
 use Rattle.spec_decoding.proofs.Outcome as O
 use Rattle.spec_operations.specs.Decoding.{matrix_size, decode_input_refusal, decode_refusal, decode_bytes, values, Decodes}
-use Rattle.decode.specs.Decoded.{letter_of, said}
-use Rattle.decode_rounds.specs.declared.Kind.{Kind}
+use Rattle.std.specs.Prelude.{Ok, Err}
+use Rattle.refusal.specs.declared.Refusal.{Refusal}
+use Rattle.refusal.specs.Number.{number_of}
+use Rattle.decode_rounds.specs.Kind.{letter_of}
+use Rattle.decode.specs.Decoded.{said}
 use Rattle.decode.specs.declared.Decoded.{Decoded}
-use Rattle.decode.specs.declared.Decoded.TheVariants.{Answered, Refused}
 use Rattle.spec_program.specs.Line.{answer_line, refusal_line, line_of}
 use Rattle.spec_program.specs.Output.{word_size, word_line}
 use Rattle.stream_words.specs.Ready.{Ready}
 use Rattle.spec_book.proofs.Numbers.{input_number}
 
 -- a refusal's line has no answer word, and where nothing is refused the buffer holds it
-line_of_lem : (k : ℕ) (x : Result) (word₀ word : List ℕ) (r : Decoded) → said r ≡ answer k (values x) → word ≡ left k x.answer word₀
-    → line_of (answer k (values x)) x.answer ≡ line_of (said r) word
-line_of_lem zero x word₀ word r s b = ap₂ line_of (sym s) (sym b)
-line_of_lem (suc k) x word₀ word r s b = ap (λ a. line_of a word) (sym s)
+line_of_lem : (k : ℕ) (x : Result) (word₀ word : List ℕ) (a : Answer) → a ≡ answer k (values x) → word ≡ left k x.answer word₀
+    → line_of (answer k (values x)) x.answer ≡ line_of a word
+line_of_lem zero x word₀ word a s b = ap₂ line_of (sym s) (sym b)
+line_of_lem (suc k) x word₀ word a s b = ap (λ d. line_of d word) (sym s)
 
 -- the rounds of an answer, and the number of a refusal, are the definition's
-same_rounds : (k : ℕ) (x : Result) (kind : Kind) {rounds changed : ℕ} → said (Answered kind rounds changed) ≡ answer k (values x) → rounds ≡ x.rounds
-same_rounds zero x kind e = cc
-same_rounds (suc k) x kind e = let z : ◌≡◌ {A = ℕ} 0 1 = cc in absurd (omega arith)
+same_rounds : (k : ℕ) (x : Result) (told : Decoded) → said (Ok told) ≡ answer k (values x) → told.rounds ≡ x.rounds
+same_rounds zero x told e = cc
+same_rounds (suc k) x told e = cc
 
-same_number : (k : ℕ) (x : Result) {n : ℕ} → said (Refused n) ≡ answer k (values x) → n ≡ k
-same_number zero x e = let z : ◌≡◌ {A = ℕ} 0 1 = cc in absurd (omega arith)
-same_number (suc k) x e = cc
+same_number : (k : ℕ) (x : Result) (why : Refusal) → said (Err why) ≡ answer k (values x) → number_of why ≡ k
+same_number zero x why e = cc
+same_number (suc k) x why e = cc
 
 module _ (bytes : List ℕ) (accepted : refusal bytes ≡ 0) (received : List ℕ) where
   result-sound : O.Sound (field_of bytes) (book_of bytes) received (book_of bytes).most_rounds (decode_bytes bytes received)
@@ -71,32 +73,30 @@ module _ (bytes : List ℕ) (c : Params) {t terms word₀ entries₀ : List ℕ}
       ap₂ (decode_input_refusal bytes received) (ready.answer_size ∙ d.n_is) entries_size
       ∙ ap (λ (k : ℕ). or_else k (decode_input_refusal bytes received (word_size bytes) (matrix_size bytes))) (sym d.accepted)
 
-  word-line : (r : Decoded) {word entries : List ℕ} → Decodes number x word₀ entries₀ (said r) word entries → word_line bytes received ≡ line_of (said r) word
+  word-line : {a : Answer} {word entries : List ℕ} → Decodes number x word₀ entries₀ a word entries → word_line bytes received ≡ line_of a word
   unfolding word_line
-  word-line r {word} h =
-      ap (λ (k : ℕ). line_of (answer k (values x)) x.answer) (sym number_is) ∙ line_of_lem number x word₀ word r h.says h.answer_buffer
+  word-line {a} {word} h =
+      ap (λ (k : ℕ). line_of (answer k (values x)) x.answer) (sym number_is) ∙ line_of_lem number x word₀ word a h.says h.answer_buffer
 
   -- an answer
-  module _ {r : Decoded} {kind : Kind} {rounds changed : ℕ} {word entries : List ℕ} (is : r ≡ Answered kind rounds changed)
-      (h : Decodes number x word₀ entries₀ (said r) word entries) where
-    pub line-answered : {letter : ℕ} → letter ≡ letter_of kind → word_line bytes received ≡ answer_line letter rounds changed word
-    line-answered e = word-line r h ∙ ap (λ (d : Decoded). line_of (said d) word) is ∙ ap (λ (l : ℕ). answer_line l rounds changed word) (sym e)
+  module _ (told : Decoded) {word entries : List ℕ} (h : Decodes number x word₀ entries₀ (said (Ok told)) word entries) where
+    pub line-answered : {letter : ℕ} → letter ≡ letter_of told.kind → word_line bytes received ≡ answer_line letter told.rounds told.changed word
+    line-answered e = word-line h ∙ ap (λ (l : ℕ). answer_line l told.rounds told.changed word) (sym e)
 
-    pub rounds-small : rounds < 100
-    rounds-small =
-        omega (arith, same_rounds number x kind (sym (ap said is) ∙ h.says), rounds-high bytes ready.describes.accepted received)
+    pub rounds-small : told.rounds < 100
+    rounds-small = omega (arith, same_rounds number x told h.says, rounds-high bytes ready.describes.accepted received)
 
   -- a refusal
-  module _ {r : Decoded} {n : ℕ} {word entries : List ℕ} (is : r ≡ Refused n) (h : Decodes number x word₀ entries₀ (said r) word entries) where
-    pub line_refused : word_line bytes received ≡ refusal_line n
-    line_refused = word-line r h ∙ ap (λ (d : Decoded). line_of (said d) word) is
+  module _ (why : Refusal) {word entries : List ℕ} (h : Decodes number x word₀ entries₀ (said (Err why)) word entries) where
+    pub line_refused : {told : ℕ} → told ≡ number_of why → word_line bytes received ≡ refusal_line told
+    line_refused e = word-line h ∙ ap refusal_line (sym e)
 
-    pub number_small : n < 100
+    pub number_small : number_of why < 100
     unfolding decode_input_refusal
     number_small =
         let exact = eqb (length word₀) (word_size bytes) && eqb (length entries₀) (matrix_size bytes) in
         omega (
           arith,
-          same_number number x (sym (ap said is) ∙ h.says),
+          same_number number x why h.says,
           input_number (field_of bytes).q (eqb (length received) (word_size bytes)) exact received,
         )

@@ -26,14 +26,10 @@ pub fn put_word(
         × (result ≤ at + (10 + 2 * c.n)) × TermsRoom book.now c terms.new }
 {
     match decode::decode_word(book, c, t, terms, word, answer, entries) {
-        Ok(told) => stream_text::put_answer(
-            out,
-            at,
-            u8::from(told.kind),
-            told.rounds,
-            told.changed,
-            answer,
-        ),
+        Ok(told) => {
+            let letter = u8::from(told.kind);
+            stream_text::put_answer(out, at, letter, told.rounds, told.changed, answer)
+        }
         Err(why) => stream_text::put_refusal(out, at, u8::from(why)),
     }
 }

@@ -23,8 +23,8 @@ use Rattle.spec_operations.specs.Burst.{burst_input_refusal, burst_refusal, burs
 use Rattle.spec_operations.specs.BurstTwice.{BurstSizes, GivenBursts, RelatedBursts}
 use Rattle.spec_operations.proofs.Decoding.{symbol-list, is_word}
 use Rattle.spec_operations.proofs.Burst.{burst_taken}
-use Rattle.burst.specs.Said.{said, made_bytes, Answered}
-use Rattle.burst.specs.declared.Burst.{Burst}
+use Rattle.refusal.specs.Number.{said}
+use Rattle.burst.specs.Said.{Outcome, made_bytes, Answered}
 
 -- ---- a burst of words
 
@@ -60,7 +60,7 @@ module _ (bytes : List ℕ) (e : refusal bytes ≡ 0) (words : ℕ) (count : T (
       ap (λ (x : Result). length x.answer) (word-result h) ∙ (answer_word bytes e (w m) (symbol-list bytes e (word m h))).exact
 
 -- what a burst that is not refused answers, lists and leaves
-shows : {number words : ℕ} {x : ℕ → Result} {answers₀ entries₀ answers entries : List ℕ} {b : Burst} → number ≡ 0
+shows : {number words : ℕ} {x : ℕ → Result} {answers₀ entries₀ answers entries : List ℕ} {b : Outcome} → number ≡ 0
     → Answered number words x answers₀ entries₀ b answers entries → Bursts 0 words x answers₀ [] entries₀ (said b) answers (made_bytes b) entries
 shows {words = words} {x = x} {answers₀ = answers₀} {entries₀ = entries₀} {answers = answers} {entries = entries} {b = b} z h =
     subst (λ (n : ℕ). Bursts n words x answers₀ [] entries₀ (said b) answers (made_bytes b) entries) z h.bursts
@@ -72,7 +72,7 @@ same_record : {F : FieldOps} {B : Book} {place symbol : ℕ → ℕ} {word : Lis
 same_record h = rw (h.same_kind, h.same_rounds, h.same_changed) refl
 
 pub related_bursts : (bytes : List ℕ) (words : ℕ) (r r' answers₀ answers₀' entries₀ entries₀' : List ℕ) (list list' : ℕ)
-    {answers entries answers' entries' : List ℕ} {b b' : Burst}
+    {answers entries answers' entries' : List ℕ} {b b' : Outcome}
     → Answered (burst_refusal bytes words r (length answers₀) list (length entries₀)) words (burst_word bytes words r) answers₀ entries₀ b answers entries
     → Answered (burst_refusal bytes words r' (length answers₀') list' (length entries₀')) words (burst_word bytes words r') answers₀' entries₀' b' answers' entries'
     → (w : ℕ → List ℕ) (t c : ℕ → ℕ) (v : ℕ → List ℕ) → GivenBursts bytes words w t c v r r'

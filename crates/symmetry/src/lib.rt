@@ -6,8 +6,8 @@ ghost use Rattle.spec_operations.specs.Decoding.{decode_refusal, decode_bytes, D
 ghost use Rattle.spec_operations.specs.Twice.{Given, Related};
 ghost use Rattle.spec_operations.specs.Burst.{burst_refusal, burst_word};
 ghost use Rattle.spec_operations.specs.BurstTwice.{BurstSizes, GivenBursts, RelatedBursts};
-ghost use Rattle.decode.specs.Decoded.{said};
-ghost use Rattle.refusal.specs.Number as bursts;
+ghost use Rattle.decode.specs.Decoded as decoded;
+ghost use Rattle.refusal.specs.Number.{said};
 ghost use Rattle.burst.specs.Said.{made_bytes, Answered};
 
 use burst::Burst;
@@ -34,15 +34,15 @@ pub fn decode_twice(
     entries2: &mut [u16],
 ) -> Two
     ensures decodes_first { Decodes (decode_refusal book.now received.now (length answer.old) (length entries.old))
-        (decode_bytes book.now received.now) answer.old entries.old (said result.first)
+        (decode_bytes book.now received.now) answer.old entries.old (decoded.said result.first)
         answer.new entries.new }
     ensures decodes_second { Decodes (decode_refusal book.now received2.now (length answer2.old) (length entries2.old))
-        (decode_bytes book.now received2.now) answer2.old entries2.old (said result.second)
+        (decode_bytes book.now received2.now) answer2.old entries2.old (decoded.said result.second)
         answer2.new entries2.new }
     ensures moved { (t c : ℕ) (v : List ℕ)
         → Given book.now t c v received.now received2.now (length answer.old) (length entries.old)
         (length answer2.old) (length entries2.old)
-        → Related book.now t c v (said result.first) (said result.second) answer.new answer2.new entries.new
+        → Related book.now t c v (decoded.said result.first) (decoded.said result.second) answer.new answer2.new entries.new
         entries2.new }
 {
     let first = decode::decode(book, received, answer, entries);
@@ -82,7 +82,7 @@ pub fn burst_twice(
         → GivenBursts book.now words w t c v received.now received2.now
         → BurstSizes book.now words (length answers.old) list (length entries.old)
         → BurstSizes book.now words (length answers2.old) list2 (length entries2.old)
-        → RelatedBursts book.now words t c v (bursts.said result.first) (bursts.said result.second) answers.new answers2.new
+        → RelatedBursts book.now words t c v (said result.first) (said result.second) answers.new answers2.new
         (made_bytes result.first) (made_bytes result.second) entries.new entries2.new }
 {
     let first = burst::decode_burst(book, words, received, answers, list, entries);

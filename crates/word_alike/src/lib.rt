@@ -22,10 +22,8 @@ pub fn inside(n: usize) -> [u8; SPAN]
     ensures { result ≡ padded 256 n (λ _. 255) }
 {
     let mut out = [0u8; SPAN];
-    let mut j = 0;
-    while j < n {
+    for j in 0..n {
         out[j] = 255;
-        j += 1;
     }
     out
 }
@@ -36,11 +34,9 @@ pub fn signature(n: usize, blocks: usize, rows: &[u8], from: usize, inside: &[u8
     ensures { result ≡ signature_of n (λ j. place rows.now (from + j)) }
 {
     let mut sum: u16 = 0;
-    let mut b = 0;
-    while b < blocks {
+    for b in 0..blocks {
         let m = marks(n, rows, from + BLOCK * b, inside, BLOCK * b);
         sum = squares(&m, sum);
-        b += 1;
     }
     sum
 }
@@ -56,8 +52,7 @@ fn marks(n: usize, rows: &[u8], from: usize, inside: &[u8], at: usize) -> [u8; B
     let d = 12 & n;
     let e = 20 & n;
     let mut out = [0u8; BLOCK];
-    let mut j = 0;
-    while j < BLOCK {
+    for j in 0..BLOCK {
         let x = rows[from + j];
         let m = mark(
             x == rows[from + (j + a)],
@@ -67,7 +62,6 @@ fn marks(n: usize, rows: &[u8], from: usize, inside: &[u8], at: usize) -> [u8; B
             x == rows[from + (j + e)],
         );
         out[j] = m & inside[at + j];
-        j += 1;
     }
     out
 }
@@ -85,11 +79,9 @@ fn squares(m: &[u8], before: u16) -> u16
     ensures { result ≡ (before + total 64 (λ j. place m.now j * place m.now j)) % 65536 }
 {
     let mut sum = before;
-    let mut j = 0;
-    while j < BLOCK {
+    for j in 0..BLOCK {
         let x = m[j] as u32;
         sum = ((sum as u32 + x * x) % 65536) as u16;
-        j += 1;
     }
     sum
 }
@@ -101,12 +93,10 @@ pub fn alike(p: u8, n: usize, s: &[u8], from: usize, t: &[u8]) -> bool
 {
     let mut d = [0u8; STRIDE];
     word_table::lay(n, s, from, 0, &mut d);
-    let mut k = 0;
-    while k < n {
+    for k in 0..n {
         if turn_ok(n, &d, k, t) {
             return true;
         }
-        k += 1;
     }
     false
 }
@@ -120,7 +110,7 @@ fn turn_ok(n: usize, d: &[u8], k: usize, t: &[u8]) -> bool
     if c == 0 {
         return false;
     }
-    same_row(n, d, k, t, 2 * BLOCK * sizes::blocks(n) * sizes::wide(c))
+    same_row(n, d, k, t, 2 * BLOCK * sizes::blocks(n) * usize::from(c))
 }
 
 // Whether the n places from k on and those from `from` on are equal: those that are not are counted, with no branch.
@@ -129,10 +119,8 @@ fn same_row(n: usize, d: &[u8], k: usize, t: &[u8], from: usize) -> bool
     ensures { result ≡ same_row n d.now k t.now from }
 {
     let mut found: u8 = 0;
-    let mut j = 0;
-    while j < n {
+    for j in 0..n {
         found += (d[k + j] != t[from + j]) as u8;
-        j += 1;
     }
     found == 0
 }

@@ -6,10 +6,11 @@ use Prim.Native.Nat.{ℕ, ◌+◌, ◌-◌, ◌≤◌, ◌<◌}
 use native.Mathlib.Decide.{dec_lt}
 use native.Mathlib.Omega.{arith}
 use lib.ListN.{length, get_or, take, replicate, length-replicate, get_or-append, get_or-eq_default}
-use lib.Seq.{get_or-take, get_or-drop, length-take-le, drop_at}
+use lib.Seq.{ext_get_or, get_or-take, get_or-drop, length-take-le, drop_at}
 use borrow.Rule.Slice.PartMut.{put_mid, post_of, same_len_mid, mid_len, take_put, drop_put}
 use Rattle.spec_range.specs.Table.{table, padded}
 use Rattle.spec_range.proofs.Table.{table-length, table_at}
+use Rattle.word_array.specs.Stored.{place}
 use Rattle.spec_range.proofs.Loop.{Held, Over, held_padded, over_none, zero_at, padded-length, padded-at, padded-reads}
 
 pub held_end : {size n j : ℕ} {f : ℕ → ℕ} {w : List ℕ} → j ≡ n → Held size j f w → w ≡ padded size n f
@@ -71,3 +72,10 @@ zero_padded size n f z =
 
 pub read_padded : {size n : ℕ} (f : ℕ → ℕ) {w : List ℕ} → w ≡ padded size n f → n ≤ size → {k : ℕ} → k < n → get_or w k 0 ≡ f k
 read_padded {size} {n} f e h {k} l = ap (λ (v : List ℕ). get_or v k 0) e ∙ padded-at size n f h l
+
+-- the first n places of a list, as a table of them
+pub part_table : (n : ℕ) (w : List ℕ) → n ≤ length w → take n w ≡ table n (place w)
+part_table n w l =
+    ext_get_or 0 (take n w) (table n (place w)) (length-take-le n w l ∙ sym (table-length n (place w))) (λ j b.
+    let below = subst (λ (k : ℕ). j < k) (length-take-le n w l) b in
+    get_or-take n w j 0 below ∙ sym (table_at n (place w) below))

@@ -29,9 +29,7 @@ pub fn store(w: &[u8], out: &mut [u8])
     ensures { out.new ≡ table (length out.old) (place w.now) }
 {
     let n = out.len();
-    for j in 0..n {
-        out[j] = w[j];
-    }
+    out.copy_from_slice(&w[..n]);
 }
 
 // Writes the sum of two lists of whole eights: a step adds eight symbols, packed in one number. All sums of words, and of rows of tables, are made of it.

@@ -10,33 +10,7 @@ ghost use Rattle.word_table.specs.Multiples.{word_of, Multiples};
 ghost use Rattle.word_table.specs.Window.{Window};
 ghost use Rattle.word_divide.specs.Window.{Dividend, AddedAt, Remains, DividedBy};
 
-use sizes::{BLOCK, SPAN, STRIDE};
-
-// Buffers for the longest word's division, and for its quotient. Only the lengths matter: what is read is written first.
-pub fn room() -> [u8; STRIDE]
-    ensures { 512 ≡ length result }
-{
-    [0; STRIDE]
-}
-
-pub fn quotient_room() -> [u8; SPAN]
-    ensures { 256 ≡ length result }
-{
-    [0; SPAN]
-}
-
-// The same for words of one block: to clear more costs time.
-pub fn short_room() -> [u8; 2 * BLOCK]
-    ensures { 128 ≡ length result }
-{
-    [0; 2 * BLOCK]
-}
-
-pub fn short_quotient_room() -> [u8; BLOCK]
-    ensures { 64 ≡ length result }
-{
-    [0; BLOCK]
-}
+use sizes::{BLOCK, SPAN};
 
 // Adds the block of a table from `from` on to the places from i on. The sum is made in a block of its own: written straight into v, it is compiled with a
 // test whether t and v overlap.
@@ -54,10 +28,8 @@ fn add_row_at(blocks: usize, t: &[u8], from: usize, i: usize, v: &mut [u8])
     requires { (from + 64 * blocks ≤ length t.now) × (i + 64 * blocks ≤ length v.old) }
     ensures { AddedAt t.now from i (64 * blocks) v.old v.new }
 {
-    let mut b = 0;
-    while b < blocks {
+    for b in 0..blocks {
         add_block_at(t, from + BLOCK * b, i + BLOCK * b, v);
-        b += 1;
     }
 }
 
@@ -68,12 +40,10 @@ fn divide_in(p: u8, n: usize, d: usize, k: usize, t: &[u8], v: &mut [u8], quotie
     ensures { DividedBy p k d (word_of (stride n) n t.now) (place v.old) quotient.new v.new }
 {
     let blocks = sizes::blocks(n);
-    let mut i = k - d;
-    while 0 < i {
-        i -= 1;
+    for i in (0..k - d).rev() {
         let top = v[i + d];
         quotient[i] = top;
-        add_row_at(blocks, t, 2 * BLOCK * blocks * sizes::wide(top), i, v);
+        add_row_at(blocks, t, 2 * BLOCK * blocks * usize::from(top), i, v);
     }
 }
 
@@ -82,10 +52,8 @@ fn copy(n: usize, w: &[u8], v: &mut [u8])
     requires { (n ≤ length w.now) × (n ≤ length v.old) }
     ensures { Window 0 n (place w.now) v.old v.new }
 {
-    let mut j = 0;
-    while j < n {
+    for j in 0..n {
         v[j] = w[j];
-        j += 1;
     }
 }
 
@@ -106,7 +74,7 @@ pub fn remainder(p: u8, n: usize, d: usize, t: &[u8], w: &[u8], v: &mut [u8])
         × (n + span n ≤ length v.old) }
     ensures { Remains p n d (word_of (stride n) n t.now) (place w.now) v.new }
 {
-    let mut quotient = quotient_room();
+    let mut quotient = [0u8; SPAN];
     divide(p, n, d, t, w, v, &mut quotient);
 }
 
@@ -115,10 +83,8 @@ fn put_unity(n: usize, v: &mut [u8])
     requires { (1 ≤ n) × (n < length v.old) }
     ensures { Window 0 (n + 1) (unity n) v.old v.new }
 {
-    let mut j = 0;
-    while j < n {
+    for j in 0..n {
         v[j] = 0;
-        j += 1;
     }
     v[0] = 1;
     v[n] = 1;

@@ -1,18 +1,11 @@
 // Eight symbols in one number, so that one step works on all of them. The contracts cite the definitions of specs/.
 #![tactic(auto)]
 
-ghost use Rattle.std.specs.Prelude.{◌≡◌, ◌<◌, length, get_or};
+ghost use Rattle.std.specs.Prelude.{◌≡◌, length, get_or};
 ghost use Rattle.spec_range.specs.Table.{table};
 ghost use Rattle.spec_word.specs.Lanes.{lane, packed, Narrow};
 
 use sizes::EIGHT;
-
-// A byte as a number of 64 digits.
-fn wide(x: u8) -> u64
-    ensures { (result ≡ x) × (result < 256) }
-{
-    x as u64
-}
 
 // The number that holds eight symbols. That each is a byte, which a list of numbers does not show, is told on.
 pub fn pack(e: &[u8]) -> u64
@@ -21,7 +14,7 @@ pub fn pack(e: &[u8]) -> u64
 {
     let mut x: u64 = 0;
     for k in 0..EIGHT {
-        x = x | (wide(e[k]) << sizes::digits_below(k));
+        x = x | (u64::from(e[k]) << sizes::digits_below(k));
     }
     x
 }

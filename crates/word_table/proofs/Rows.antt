@@ -11,7 +11,7 @@ use native.Mathlib.Omega.{arith}
 use lib.Bits.{bit_xor}
 use lib.ListN.{length}
 use lib.Pow.{pow_pos}
-use Rattle.spec_range.specs.Table.{padded}
+use Rattle.spec_range.specs.Table.{table, padded}
 use Rattle.spec_field.specs.Field.{FieldLaws}
 use Rattle.spec_field.specs.Symbols.{times_x, product, gf}
 use Rattle.spec_field.proofs.Xor.{digit}
@@ -100,6 +100,13 @@ row_put {t₀ = t₀} {t = t} e s h =
       low = λ k l. h.low k (omega arith);
       high = λ k l. h.high k (omega arith);
     }
+
+-- block b that was read of row c is as it was, since only row 2c was written
+pub block_as_before : (blocks c b : ℕ) {count : ℕ} {f : ℕ → ℕ} {row t₀ t : List ℕ} → 1 ≤ c → b < 2 * blocks → Window (128 * blocks * (2 * c)) count f t₀ t
+    → row ≡ table 64 (λ k. place t (128 * blocks * c + 64 * b + k)) → (k : ℕ) → k < 64 → place row k ≡ entry (128 * blocks) t₀ c (64 * b + k)
+block_as_before blocks c b {t₀ = t₀} pos in_row so_far read k l =
+    let apart = rows_apart (128 * blocks) {b = c} {c = 2 * c} (omega (arith, pos)) in
+    read_table _ read l ∙ so_far.low (128 * blocks * c + 64 * b + k) (omega (arith, apart)) ∙ ap (place t₀) (omega arith)
 
 -- what φ reads of a byte, the whole or one of several symbols that it holds, is a symbol where the byte is one of d's
 pub record Reading (stride p : ℕ) (φ d : ℕ → ℕ) : Type 0 where

@@ -12,21 +12,7 @@ ghost use Rattle.word_table.specs.Window.{Window};
 ghost use Rattle.word_table.specs.Multiples.{Laid, entry, Begun, RowStored, RowPut, Tabled};
 ghost use Rattle.word_table.specs.Rows.{turned_sum, Summands};
 
-use sizes::{BLOCK, FEW_TABLE, TABLE};
-
-// Room for a table of multiples. Only its length matters: what is read of it is written first.
-pub fn table_room() -> [u8; TABLE]
-    ensures { 8192 ≡ length result }
-{
-    [0; TABLE]
-}
-
-// The same where symbols are few and words short: to clear more costs time.
-pub fn few_table_room() -> [u8; FEW_TABLE]
-    ensures { 1024 ≡ length result }
-{
-    [0; FEW_TABLE]
-}
+use sizes::BLOCK;
 
 // The block of a slice from `from` on.
 pub fn block(s: &[u8], from: usize) -> [u8; BLOCK]
@@ -34,10 +20,8 @@ pub fn block(s: &[u8], from: usize) -> [u8; BLOCK]
     ensures { result ≡ table 64 (λ j. place s.now (from + j)) }
 {
     let mut out = [0u8; BLOCK];
-    let mut j = 0;
-    while j < BLOCK {
+    for j in 0..BLOCK {
         out[j] = s[from + j];
-        j += 1;
     }
     out
 }
@@ -48,10 +32,8 @@ fn last_block(s: &[u8], from: usize) -> [u8; BLOCK]
     ensures { result ≡ padded 64 63 (λ j. place s.now (from + j)) }
 {
     let mut out = [0u8; BLOCK];
-    let mut j = 0;
-    while j < BLOCK - 1 {
+    for j in 0..BLOCK - 1 {
         out[j] = s[from + j];
-        j += 1;
     }
     out
 }
@@ -61,10 +43,8 @@ pub fn put_block(b: [u8; BLOCK], to: usize, t: &mut [u8])
     requires { to + 64 ≤ length t.old }
     ensures { Window to 64 (place b) t.old t.new }
 {
-    let mut j = 0;
-    while j < BLOCK {
+    for j in 0..BLOCK {
         t[to + j] = b[j];
-        j += 1;
     }
 }
 
@@ -73,10 +53,8 @@ fn copy_blocks(s: &[u8], from: usize, count: usize, to: usize, t: &mut [u8])
     requires { (from + 64 * count ≤ length s.now) × (to + 64 * count ≤ length t.old) }
     ensures { Window to (64 * count) (λ j. place s.now (from + j)) t.old t.new }
 {
-    let mut b = 0;
-    while b < count {
+    for b in 0..count {
         put_block(block(s, from + BLOCK * b), to + BLOCK * b, t);
-        b += 1;
     }
 }
 
@@ -100,10 +78,8 @@ fn clear(count: usize, t: &mut [u8])
     requires { 64 * count ≤ length t.old }
     ensures { Window 0 (64 * count) (λ j. 0) t.old t.new }
 {
-    let mut b = 0;
-    while b < count {
+    for b in 0..count {
         put_block([0; BLOCK], BLOCK * b, t);
-        b += 1;
     }
 }
 
@@ -122,10 +98,8 @@ fn put_times_x(p: u8, row: [u8; BLOCK], to: usize, t: &mut [u8])
     requires { (1 ≤ p) × (p ≤ 6) × (to + 64 ≤ length t.old) × Stored p 64 row }
     ensures { Window to 64 (λ j. times_x p (place row j)) t.old t.new }
 {
-    let mut j = 0;
-    while j < BLOCK {
+    for j in 0..BLOCK {
         t[to + j] = field::double(p, row[j]);
-        j += 1;
     }
 }
 
@@ -138,11 +112,9 @@ fn put_double(p: u8, blocks: usize, c: usize, t: &mut [u8])
 {
     let from = 2 * BLOCK * blocks * c;
     let to = 2 * BLOCK * blocks * (2 * c);
-    let mut b = 0;
-    while b < 2 * blocks {
+    for b in 0..2 * blocks {
         let row = block(t, from + BLOCK * b);
         put_times_x(p, row, to + BLOCK * b, t);
-        b += 1;
     }
 }
 
@@ -164,12 +136,10 @@ pub fn put_next(blocks: usize, c: usize, t: &mut [u8])
     let first = 2 * BLOCK * blocks;
     let from = first * (2 * c);
     let to = from + first;
-    let mut b = 0;
-    while b < 2 * blocks {
+    for b in 0..2 * blocks {
         let mut sum = block(t, from + BLOCK * b);
         add_block(t, first + BLOCK * b, &mut sum);
         put_block(sum, to + BLOCK * b, t);
-        b += 1;
     }
 }
 
@@ -180,13 +150,11 @@ pub fn tabulate(p: u8, n: usize, s: &[u8], from: usize, t: &mut [u8])
     ensures { Tabled (stride n) p n (λ j. place s.now (from + j)) t.old t.new }
 {
     let blocks = sizes::blocks(n);
-    let q = sizes::wide(field::order(p));
+    let q = usize::from(field::order(p));
     put_first_rows(n, s, from, t);
-    let mut c: usize = 1;
-    while 2 * c < q {
+    for c in 1..q / 2 {
         put_double(p, blocks, c, t);
         put_next(blocks, c, t);
-        c += 1;
     }
 }
 
@@ -205,11 +173,9 @@ fn product_block(
     ensures { result ≡ table 64 (λ j. turned_sum (128 * blocks) n count (λ u. place symbols.now (start + u)) t.now (at + j)) }
 {
     let mut sum = [0u8; BLOCK];
-    let mut u = 0;
-    while u < count {
-        let x = sizes::wide(symbols[start + u]);
+    for u in 0..count {
+        let x = usize::from(symbols[start + u]);
         add_block(t, 2 * BLOCK * blocks * x + (n - u) + at, &mut sum);
-        u += 1;
     }
     sum
 }
@@ -221,10 +187,8 @@ pub fn product(n: usize, count: usize, symbols: &[u8], start: usize, t: &[u8], o
         out.old out.new }
 {
     let blocks = sizes::blocks(n);
-    let mut b = 0;
-    while b < blocks {
+    for b in 0..blocks {
         let sum = product_block(n, blocks, count, symbols, start, t, BLOCK * b);
         put_block(sum, BLOCK * b, out);
-        b += 1;
     }
 }

@@ -24,19 +24,14 @@ order-requires c = omega (arith, c.if-most_digits-p.false, c.most_digits.ensures
 
 pub word_length-requires : goal.word_length-requires
 word_length-requires c =
-    let x = c in
-    omega (arith, x.if-most_exponent-s.false, x.most_exponent.ensures, exponent_le (is_long x.args.book.now))
+    omega (arith, c.if-most_exponent-s.false, c.most_exponent.ensures, exponent_le (is_long c.args.book.now))
 
 pub overflow_mul-result : goal.overflow_mul-result
 overflow_mul-result c =
-    let size = (let fact : let bytes = c.args.book.now in MatrixBound bytes (2 ^ symbol_digits bytes * word_length bytes) = let d = c in
-    let x = d in
-    matrix_bounded c.args.book.now (omega (arith, x.most_exponent.ensures, d.if-most_exponent-s.false))
-    (omega (arith, d.most_digits.ensures, c.if-most_digits-p.false)) in fact) in
-    omega (arith, size.most, ap₂ ◌*◌ (c.wide.ensures ∙ c.order.ensures) c.word_length.ensures.0)
+    let size = (let fact : let bytes = c.args.book.now in MatrixBound bytes (2 ^ symbol_digits bytes * word_length bytes) = matrix_bounded c.args.book.now (omega (arith, c.most_exponent.ensures, c.if-most_exponent-s.false))
+    (omega (arith, c.most_digits.ensures, c.if-most_digits-p.false)) in fact) in
+    omega (arith, size.most, ap₂ ◌*◌ (c.from.ensures ∙ c.order.ensures) c.word_length.ensures.0)
 
 pub returns : goal.returns
-returns c = rw (c.wide.ensures, c.order.ensures, c.word_length.ensures.0) ((let fact : let bytes = c.args.book.now in MatrixBound bytes (2 ^ symbol_digits bytes * word_length bytes) = let d = c in
-    let x = d in
-    matrix_bounded c.args.book.now (omega (arith, x.most_exponent.ensures, d.if-most_exponent-s.false))
-    (omega (arith, d.most_digits.ensures, c.if-most_digits-p.false)) in fact))
+returns c = rw (c.from.ensures, c.order.ensures, c.word_length.ensures.0) ((let fact : let bytes = c.args.book.now in MatrixBound bytes (2 ^ symbol_digits bytes * word_length bytes) = matrix_bounded c.args.book.now (omega (arith, c.most_exponent.ensures, c.if-most_exponent-s.false))
+    (omega (arith, c.most_digits.ensures, c.if-most_digits-p.false)) in fact))

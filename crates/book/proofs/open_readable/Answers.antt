@@ -29,7 +29,7 @@ degree-requires c =
 
 pub refusal-requires : goal.refusal-requires
 refusal-requires c =
-    gathered c.requires.0 refl c.word_length-n.ensures.0 c.tabulate.ensures c.degree.ensures.0 c.record-limits.ensures.0 refl c.wide.ensures
+    gathered c.requires.0 refl c.word_length-n.ensures.0 c.tabulate.ensures c.degree.ensures.0 c.record-limits.ensures.0 refl c.from.ensures
     c.dual_count.ensures.0
 
 pub returns-in_err-refusal : goal.returns-in_err-refusal
@@ -40,7 +40,7 @@ returns-in_err-refusal c =
 pub returns : goal.returns
 returns c =
     let h : Gathered c.args.book.now _ c.tabulate.new.t =
-    gathered c.requires.0 refl c.word_length-n.ensures.0 c.tabulate.ensures c.degree.ensures.0 c.record-limits.ensures.0 refl c.wide.ensures
+    gathered c.requires.0 refl c.word_length-n.ensures.0 c.tabulate.ensures c.degree.ensures.0 c.record-limits.ensures.0 refl c.from.ensures
     c.dual_count.ensures.0
     in
     ((described _ c.requires.0 refl h (sym c.in_ok-refusal.ensures), h.table), c.tabulate.ensures.long)

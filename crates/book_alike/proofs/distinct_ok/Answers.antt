@@ -10,18 +10,12 @@ returns-then-duals-lt2 c = no_pair _ _ _ c.if-duals-lt2.true
 
 pub signatures-s-requires : goal.signatures-s-requires
 signatures-s-requires c =
-    let s = c.requires in
-    let h = s.tested in
-    record { n_low = h.sizes.n_low; n_high = h.sizes.n_high; most = s.most; room = h.room; spanned = h.spanned }
+    let h = c.requires.tested in
+    record { n_low = h.sizes.n_low; n_high = h.sizes.n_high; most = c.requires.most; room = h.room; spanned = h.spanned }
 
 pub returns-then-all_differ : goal.returns-then-all_differ
 returns-then-all_differ c =
-    let signed = c in
-    all_once signed.requires signed.signatures-s.ensures (sym c.all_differ.ensures ∙ c.if-all_differ.true)
+    all_once c.requires c.signatures-s.ensures (sym c.all_differ.ensures ∙ c.if-all_differ.true)
 
 pub pairs_ok-requires : goal.pairs_ok-requires
-pairs_ok-requires c =
-    let room = c in
-    let signed = room in
-    let start = signed in
-    (start.requires, signed.signatures-s.ensures, omega (arith, start.requires.tested.sizes.together, room.table_room-t.ensures))
+pairs_ok-requires c = (c.requires, c.signatures-s.ensures, omega (arith, c.requires.tested.sizes.together))

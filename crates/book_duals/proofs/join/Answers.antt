@@ -9,13 +9,10 @@ pub loop-b-init : goal.loop-b-init
 loop-b-init c = joining_none _ _ _
 
 pub join_block-requires : goal.join_block-requires
-join_block-requires c = let s = c.loop-b.invariant in search (rules, s.window.long)
+join_block-requires c = search (rules, c.loop-b.invariant.window.long)
 
 pub loop-b-preserved : goal.loop-b-preserved
 loop-b-preserved c = joining_more c.loop-b.invariant (omega arith) c.join_block.ensures
-
-pub shape_of-left : goal.shape_of-left
-shape_of-left c = c.loop-b.invariant.window.long
 
 pub returns : goal.returns
 returns c = joining_end c.loop-b.invariant (omega arith)

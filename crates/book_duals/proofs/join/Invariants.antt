@@ -1,11 +1,7 @@
 -- `book_duals::join` meets its contract. The invariant: b blocks are joined.
 -- Assumes nothing.
-use Prim.Native.Nat.{◌-◌}
 use Rattle.book_duals.proofs.Joined.{Joining}
 use Rattle.book_duals.proofs.join.Given as goal
 
 abbrev pub invariant-loop-b : goal.invariant-loop-b
 invariant-loop-b l = Joining l.blocks l.word l.initial.left l.b l.left
-
-abbrev pub decreases-loop-b : goal.decreases-loop-b
-decreases-loop-b l = l.blocks - l.b

@@ -7,6 +7,4 @@ use borrow.Author.Rules.{rules}
 use Rattle.book_duals.proofs.products_vanish.Goals as goal
 
 pub products_vanish-requires : goal.products_vanish-requires
-products_vanish-requires c =
-    let start = c in
-    (search rules, omega (arith, ltb-true start.args.p 4 (sym c.few.ensures ∙ c.if-few.true)))
+products_vanish-requires c = (search rules, omega (arith, ltb-true c.args.p 4 (sym c.few.ensures ∙ c.if-few.true)))

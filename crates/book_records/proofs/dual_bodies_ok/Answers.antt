@@ -12,9 +12,8 @@ loop-l-init c = passing_none _ _
 
 pub body_ok-requires : goal.body_ok-requires
 body_ok-requires c =
-    let s = c in
-    let h = s.requires in
-    rw c.dual_at.ensures (dual_body h.0 h.1 {l = s.loop-l.l} (omega (arith, s.dual_count-count.ensures.0)), h.2)
+    let h = c.requires in
+    rw c.dual_at.ensures (dual_body h.0 h.1 {l = c.loop-l.l} (omega (arith, c.dual_count-count.ensures.0)), h.2)
 
 pub returns-then-not-body_ok : goal.returns-then-not-body_ok
 returns-then-not-body_ok c =

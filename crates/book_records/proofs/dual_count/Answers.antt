@@ -10,9 +10,8 @@ use Rattle.book_records.proofs.dual_count.Goals as goal
 pub returns : goal.returns
 unfolding width
 returns c =
-    let s = c in
-    let bytes = s.args.book.now in
+    let bytes = c.args.book.now in
     let e : c.records_in.result ≡ duals_in bytes =
     c.records_in.ensures
-    ∙ ap₂ (λ (size : ℕ) (long : Bool). size / (1 + cond long 255 63)) (omega (arith, s.record-head.ensures.0)) c.is_long.ensures in
-    (e, omega (arith, e, s.requires.count_high))
+    ∙ ap₂ (λ (size : ℕ) (long : Bool). size / (1 + cond long 255 63)) (omega (arith, c.record-head.ensures.0)) c.is_long.ensures in
+    (e, omega (arith, e, c.requires.count_high))

@@ -16,8 +16,7 @@ loop-l-init c = passing_none _ _
 
 pub bounds-book-dual_at : goal.bounds-book-dual_at
 bounds-book-dual_at c =
-    let s = c in
-    omega (arith, c.dual_at.ensures, dual_room {l = s.loop-l.l} s.requires (omega (arith, s.dual_count-count.ensures.0)))
+    omega (arith, c.dual_at.ensures, dual_room {l = c.loop-l.l} c.requires (omega (arith, c.dual_count-count.ensures.0)))
 
 pub returns-then-book-dual_at : goal.returns-then-book-dual_at
 returns-then-book-dual_at c =

@@ -18,8 +18,7 @@ bounds-book-0 c = search (rules, four_bytes _ c.requires)
 
 pub returns-then-book-ne1 : goal.returns-then-book-ne1
 returns-then-book-ne1 c = rw (
-  (let fact : let bytes = c.args.book.now in kinds_ok bytes ≡ (eqb (byte bytes 0) 1 && eqb (byte bytes generator_at) c.by_form-generator.result && eqb (byte bytes (generator_at + c.record-record.result)) 3 && all (duals_in bytes) (λ l. eqb (byte bytes (dual_at (width bytes) l)) c.by_form-dual.result)) = let s = c in
-      kinds_tested _ s.is_long-long.ensures s.by_form-generator.ensures c.by_form-dual.ensures c.record-record.ensures.0 in fact),
+  (let fact : let bytes = c.args.book.now in kinds_ok bytes ≡ (eqb (byte bytes 0) 1 && eqb (byte bytes generator_at) c.by_form-generator.result && eqb (byte bytes (generator_at + c.record-record.result)) 3 && all (duals_in bytes) (λ l. eqb (byte bytes (dual_at (width bytes) l)) c.by_form-dual.result)) = kinds_tested _ c.is_long-long.ensures c.by_form-generator.ensures c.by_form-dual.ensures c.record-record.ensures.0 in fact),
   ne_eqb _ _ c.if-book-ne1.true,
 )
 
@@ -38,10 +37,8 @@ returns-then-book-generator c =
 
 pub bounds-book-record : goal.bounds-book-record
 bounds-book-record c =
-    let t = c in
-    let s = t in
-    let w = whole_chosen _ s.requires s.is_long-long.ensures (c.if-book-generator.false ∙ s.by_form-generator.ensures) in
-    omega (arith, t.record-record.ensures.0, w.size)
+    let w = whole_chosen _ c.requires c.is_long-long.ensures (c.if-book-generator.false ∙ c.by_form-generator.ensures) in
+    omega (arith, c.record-record.ensures.0, w.size)
 
 pub returns-then-book-record-ne3 : goal.returns-then-book-record-ne3
 returns-then-book-record-ne3 c =
@@ -57,9 +54,7 @@ returns-then-book-record-ne3 c =
 
 pub dual_kinds_ok-requires : goal.dual_kinds_ok-requires
 dual_kinds_ok-requires c =
-    let t = c in
-    let s = t in
-    whole_chosen _ s.requires s.is_long-long.ensures (t.if-book-generator.false ∙ s.by_form-generator.ensures)
+    whole_chosen _ c.requires c.is_long-long.ensures (c.if-book-generator.false ∙ c.by_form-generator.ensures)
 
 pub returns : goal.returns
 returns c =

@@ -19,8 +19,7 @@ word_length-n-requires c = exponent_high _ c.requires.2
 pub body_ok-requires : goal.body_ok-requires
 body_ok-requires c = let h = c.requires in (
   generator_body h.0 h.1,
-  (let fact : Bounds c.args.book.now (c.record-blocks.result / 64) c.bounds-bounds.result = let s = c in
-      bounded s.requires.2 s.order-q.ensures s.word_length-n.ensures.0 c.bounds-bounds.ensures
+  (let fact : Bounds c.args.book.now (c.record-blocks.result / 64) c.bounds-bounds.result = bounded c.requires.2 c.order-q.ensures c.word_length-n.ensures.0 c.bounds-bounds.ensures
       (ap (λ (x : ℕ). x / 64) c.record-blocks.ensures.0) in fact),
 )
 

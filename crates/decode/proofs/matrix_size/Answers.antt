@@ -9,9 +9,8 @@ use Rattle.decode.proofs.matrix_size.Goals as goal
 
 pub overflow_mul-result : goal.overflow_mul-result
 overflow_mul-result c =
-    let s = c in
-    let b : 2 ^ s.args.p ≤ 64 = pow_mono s.requires.0 in
-    scaled_Fits c.wide.result 65 s.args.n (omega (arith, c.order.ensures, c.wide.ensures)) (omega (arith, s.requires.1))
+    let b : 2 ^ c.args.p ≤ 64 = pow_mono c.requires.0 in
+    scaled_Fits c.from.result 65 c.args.n (omega (arith, c.order.ensures, c.from.ensures)) (omega (arith, c.requires.1))
 
 pub returns : goal.returns
-returns c = ap (λ (q : ℕ). q * c.args.n) (c.wide.ensures ∙ c.order.ensures)
+returns c = ap (λ (q : ℕ). q * c.args.n) (c.from.ensures ∙ c.order.ensures)

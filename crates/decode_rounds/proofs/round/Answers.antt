@@ -26,21 +26,16 @@ is_zero-requires c =
 
 pub returns-then-is_zero : goal.returns-then-is_zero
 returns-then-is_zero c bytes make b hm =
-    let add = c in
-    let made = add in
-    round_empty bytes make _ _ b.describes made.requires.word _ _ _ hm made.corrections-e.ensures add.add-next.ensures refl
+    round_empty bytes make _ _ b.describes c.requires.word _ _ _ hm c.corrections-e.ensures c.add-next.ensures refl
     (sym c.is_zero.ensures ∙ c.if-is_zero.true)
 
 pub remainder-requires : goal.remainder-requires
 remainder-requires c =
-    let add = c in
-    let made = add in
-    let start = made in
-    let h = start.requires in
+    let h = c.requires in
     let d = h.open_book.describes in
     let s = params_sizes _ _ d in
     -- the corrections are symbols whatever the matrix is
-    let stored = round_stored _ (λ f. start.args.m.now) _ _ d h.word _ _ _ refl made.corrections-e.ensures add.add-next.ensures in (
+    let stored = round_stored _ (λ f. c.args.m.now) _ _ d h.word _ _ _ refl c.corrections-e.ensures c.add-next.ensures in (
       s,
       degree_low _ _ d,
       degree_high _ _ d,
@@ -48,7 +43,7 @@ remainder-requires c =
       record {
         symbol = λ j l.
             let within : j < 255 = omega (arith, l, s.n_high) in
-            let next : place add.add-next.result j < 2 ^ start.args.c.p = rw d.p_is (stored.symbol j within) in
+            let next : place c.add-next.result j < 2 ^ c.args.c.p = rw d.p_is (stored.symbol j within) in
             -- the word before the round has symbols too
             search (next, h.word.symbol j within);
       },
@@ -66,10 +61,6 @@ is_zero-requires-2 c =
 
 pub returns : goal.returns
 returns c bytes make b hm =
-    let divided = c in
-    let tested = divided in
-    let add = tested in
-    let made = add in
-    round_tested bytes make _ _ b.describes made.requires.word _ _ _ hm made.corrections-e.ensures add.add-next.ensures
-    b.table_is divided.remainder.ensures (c.changed-step.ensures ∙ ap (step_of false) c.is_zero-2.ensures)
-    (sym tested.is_zero.ensures ∙ tested.if-is_zero.false)
+    round_tested bytes make _ _ b.describes c.requires.word _ _ _ hm c.corrections-e.ensures c.add-next.ensures
+    b.table_is c.remainder.ensures (c.changed-step.ensures ∙ ap (step_of false) c.is_zero-2.ensures)
+    (sym c.is_zero.ensures ∙ c.if-is_zero.false)

@@ -20,11 +20,10 @@ load-r-requires c =
 
 pub remainder-requires : goal.remainder-requires
 remainder-requires c =
-    let start = c in
-    let h = start.requires in
+    let h = c.requires in
     let d = h.describes in
     let s = params_sizes _ _ d in
-    let blocks = blocks_high start.args.c.n in
+    let blocks = blocks_high c.args.c.n in
     let high = s.n_high in
     (s, degree_low _ _ d, degree_high _ _ d, h.long, h.word, h.table_is.multiples, search (rules, blocks, high))
 
@@ -37,13 +36,9 @@ is_zero-requires c =
 
 pub returns-then-is_zero : goal.returns-then-is_zero
 returns-then-is_zero c =
-    let tested = c in
-    let divided = tested in
-    let loaded = divided in
-    let start = loaded in
-    let h = start.requires in (
-      decoded-clean _ _ _ start.args.received.now _ h.describes h.table_is divided.remainder.ensures _ loaded.load-r.ensures
-          (sym tested.is_zero.ensures ∙ tested.if-is_zero.true) start.args.m.now h.size c.clear.ensures,
+    let h = c.requires in (
+      decoded-clean _ _ _ c.args.received.now _ h.describes h.table_is c.remainder.ensures _ c.load-r.ensures
+          (sym c.is_zero.ensures ∙ c.if-is_zero.true) c.args.m.now h.size c.clear.ensures,
       h.terms_room,
     )
 
@@ -54,33 +49,25 @@ ready-requires c =
 
 pub go-requires : goal.go-requires
 go-requires c =
-    let listed = c in
-    let loaded = listed in
-    let start = loaded in
-    let h = start.requires in
-    let blocks = blocks_high start.args.c.n in
+    let h = c.requires in
+    let blocks = blocks_high c.args.c.n in
     let high = (params_sizes _ _ h.describes).n_high in
     record {
-      bytes = start.args.book.now;
-      prepared = record { describes = h.describes; table_is = h.table_is; terms_are = listed.ready.ensures.0 };
+      bytes = c.args.book.now;
+      prepared = record { describes = h.describes; table_is = h.table_is; terms_are = c.ready.ensures.0 };
       word =
-          padded_symbols loaded.load-r.ensures (λ j l.
-          subst (λ (k : ℕ). place start.args.received.now k < 2 ^ start.args.c.p) (omega arith) (h.word.symbol j l));
+          padded_symbols c.load-r.ensures (λ j l.
+          subst (λ (k : ℕ). place c.args.received.now k < 2 ^ c.args.c.p) (omega arith) (h.word.symbol j l));
       size = h.size;
       long = search (rules, blocks, high);
     }
 
 pub returns : goal.returns
 returns c =
-    let listed = c in
-    let tested = listed in
-    let divided = tested in
-    let loaded = divided in
-    let start = loaded in
-    let h = start.requires in
-    let terms = listed.ready.ensures in (
-      decoded-rounds _ _ _ start.args.received.now _ h.describes h.table_is divided.remainder.ensures _ loaded.load-r.ensures
-          (sym tested.is_zero.ensures ∙ tested.if-is_zero.false)
+    let h = c.requires in
+    let terms = c.ready.ensures in (
+      decoded-rounds _ _ _ c.args.received.now _ h.describes h.table_is c.remainder.ensures _ c.load-r.ensures
+          (sym c.is_zero.ensures ∙ c.if-is_zero.false)
           (c.go.ensures _ (record { describes = h.describes; table_is = h.table_is; terms_are = terms.0 })),
       record { long = omega (arith, h.terms_room.long, terms.1); kept = already terms.0 },
     )

@@ -13,8 +13,7 @@ use Rattle.decode_update.proofs.corrections.Goals as goal
 
 pub low_limit-low-requires : goal.low_limit-low-requires
 low_limit-low-requires c =
-    let s = c in
-    (search rules, omega (arith, row_within s.args.n (pow_pos s.args.p)))
+    (search rules, omega (arith, row_within c.args.n (pow_pos c.args.p)))
 
 pub slice_bounds-high_limit-end : goal.slice_bounds-high_limit-end
 slice_bounds-high_limit-end c = sym c.peaks.ensures.1
@@ -27,21 +26,17 @@ loop-j-init c = (search rules, held_none 255 _)
 
 pub bounds-m-j : goal.bounds-m-j
 bounds-m-j c =
-    let s = c in
-    omega (arith, row_within s.args.n (pow_pos s.args.p))
+    omega (arith, row_within c.args.n (pow_pos c.args.p))
 
 pub loop-j-preserved : goal.loop-j-preserved
 unfolding admitted
 loop-j-preserved c =
-    let t = c in
-    let low = t.low_limit-low.ensures in
-    let high = t.high_limit-high.ensures in
+    let low = c.low_limit-low.ensures in
+    let high = c.high_limit-high.ensures in
     let e = c.chosen.ensures in
-    (search rules, held_more _ (omega arith) (rw (low _ e.1, high _ e.2) e.0) t.loop-j.invariant.1)
+    (search rules, held_more _ (omega arith) (rw (low _ e.1, high _ e.2) e.0) c.loop-j.invariant.1)
 
 pub returns : goal.returns
 returns c =
-    let t = c in
-    let s = t in
     λ B e d.
-    corrections_held _ (gf_laws _ s.requires.0.p_low s.requires.0.p_high) B _ _ _ e d t.peaks.ensures.0 (omega arith) c.loop-j.invariant.1
+    corrections_held _ (gf_laws _ c.requires.0.p_low c.requires.0.p_high) B _ _ _ e d c.peaks.ensures.0 (omega arith) c.loop-j.invariant.1

@@ -11,8 +11,7 @@ loop-width-init c = low-start _ _ _ c.requires.2 (omega arith)
 
 pub loop-width-preserved : goal.loop-width-preserved
 loop-width-preserved c =
-    let t = c in
-    let s = t.loop-width.invariant in
+    let s = c.loop-width.invariant in
     let e = c.at_most.ensures in
     elim c.if-at_most-most.branch [
       | then-at_most-most w ↦ rw w.least-is (sought-after s (low_falls _ _ _) _ (omega arith) (omega arith) (omega (arith, e)))

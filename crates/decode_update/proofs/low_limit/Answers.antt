@@ -9,12 +9,10 @@ returns-then-n-places c = low_all _ _ _ c.if-n-places.true (omega arith)
 
 pub limit-requires : goal.limit-requires
 limit-requires c =
-    let t = c in
-    let b = blocks_hold t.blocks-2.ensures (omega arith) in
-    (t.widened.ensures.long, omega (arith, b.1), top_counts t.widened.ensures b.0 (omega arith) c.largest.ensures)
+    let b = blocks_hold c.blocks-2.ensures (omega arith) in
+    (c.widened.ensures.long, omega (arith, b.1), top_counts c.widened.ensures b.0 (omega arith) c.largest.ensures)
 
 pub returns : goal.returns
 returns c =
-    let t = c in
-    let b = blocks_hold t.blocks-2.ensures (omega arith) in
-    (limit_front t.widened.ensures b.0 b.1 (omega arith) c.limit.ensures).test
+    let b = blocks_hold c.blocks-2.ensures (omega arith) in
+    (limit_front c.widened.ensures b.0 b.1 (omega arith) c.limit.ensures).test

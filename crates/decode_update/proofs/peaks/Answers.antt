@@ -10,8 +10,7 @@ use Rattle.decode_update.proofs.peaks.Goals as goal
 
 pub loop-i-init : goal.loop-i-init
 loop-i-init c =
-    let s = c in
-    rw (s.requires.2, s.requires.3) (climbing_none (omega arith) (pow_pos s.args.p))
+    rw (c.requires.2, c.requires.3) (climbing_none (omega arith) (pow_pos c.args.p))
 
 pub overflow_mul-start : goal.overflow_mul-start
 overflow_mul-start c = omega (arith, (let fact : c.loop-i.i * c.args.n + c.args.n ≤ length c.args.m.now = rw c.requires.1 (row_within _ (omega arith)) in fact))
@@ -24,13 +23,11 @@ offset_bounds-m-start c = omega (arith, (let fact : c.loop-i.i * c.args.n + c.ar
 
 pub take_row-requires : goal.take_row-requires
 take_row-requires c =
-    let t = c in
-    (rw (part_length _ _ _ ((let fact : t.loop-i.i * t.args.n + t.args.n ≤ length t.args.m.now = rw t.requires.1 (row_within _ (omega arith)) in fact))) (omega arith), t.loop-i.invariant.counts_long, t.loop-i.invariant.symbols_long)
+    (rw (part_length _ _ _ ((let fact : c.loop-i.i * c.args.n + c.args.n ≤ length c.args.m.now = rw c.requires.1 (row_within _ (omega arith)) in fact))) (omega arith), c.loop-i.invariant.counts_long, c.loop-i.invariant.symbols_long)
 
 pub loop-i-preserved : goal.loop-i-preserved
 loop-i-preserved c =
-    let t = c in
-    climbing_more t.requires.1 (omega arith) t.loop-i.invariant c.take_row.ensures
+    climbing_more c.requires.1 (omega arith) c.loop-i.invariant c.take_row.ensures
 
 pub returns : goal.returns
 returns c =

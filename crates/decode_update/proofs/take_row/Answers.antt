@@ -9,8 +9,7 @@ loop-j-init c = taking_none _ _ _ _
 
 pub loop-j-preserved : goal.loop-j-preserved
 loop-j-preserved c =
-    let t = c in
-    taking-more _ _ _ _ t.loop-j.invariant (search rules) (search rules) (search rules) c.max.ensures c.holder.ensures
+    taking-more _ _ _ _ c.loop-j.invariant (search rules) (search rules) (search rules) c.max.ensures c.holder.ensures
 
 pub returns : goal.returns
 returns c = taking-end _ _ _ _ c.loop-j.invariant (search rules)

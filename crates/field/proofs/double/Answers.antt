@@ -5,7 +5,6 @@ use Rattle.spec_field.proofs.Gf.{times_x-below}
 use Rattle.field.proofs.double.Goals as goal
 
 pub returns : goal.returns
-returns c = let s = c in
-    let p = s.args.p in
+returns c = let p = c.args.p in
     let made = c.times_x.ensures in
-    (made, subst (λ (x : ℕ). x < 2 ^ p) (sym made) (times_x-below p s.args.a s.requires.1 s.requires.2))
+    (made, subst (λ (x : ℕ). x < 2 ^ p) (sym made) (times_x-below p c.args.a c.requires.1 c.requires.2))

@@ -20,11 +20,10 @@ loop-init c = (
 
 pub loop-preserved : goal.loop-preserved
 unfolding squares
-loop-preserved c = let s = c in
-    let p = s.args.p in
-    let square = s.loop.square in
-    let total = s.loop.total in
-    let i = s.loop.counter in
+loop-preserved c = let p = c.args.p in
+    let square = c.loop.square in
+    let total = c.loop.total in
+    let i = c.loop.counter in
     let k : suc (p - (i + 1)) ≡ p - i = omega arith in
     let squared = c.mul-square.ensures.0 in (
       search rules,
@@ -33,11 +32,10 @@ loop-preserved c = let s = c in
       c.mul-total.ensures.1,
       ap₂ (λ (x y : ℕ). squares p (p - (i + 1)) x y) squared (c.mul-total.ensures.0 ∙ ap (product p total) squared)
           ∙ ap (λ (n : ℕ). squares p n square total) k
-          ∙ s.loop.invariant.4,
+          ∙ c.loop.invariant.4,
     )
 
 pub returns : goal.returns
 unfolding squares
-returns c = let s = c in
-    let left : 0 ≡ s.args.p - s.loop.counter = omega arith in
-    (ap (λ (n : ℕ). squares s.args.p n s.loop.square s.loop.total) left ∙ s.loop.invariant.4, s.loop.invariant.3)
+returns c = let left : 0 ≡ c.args.p - c.loop.counter = omega arith in
+    (ap (λ (n : ℕ). squares c.args.p n c.loop.square c.loop.total) left ∙ c.loop.invariant.4, c.loop.invariant.3)

@@ -11,18 +11,15 @@ returns-then-p-gt6 c = simp (ne_eqb c.args.p 0 (omega arith), lt-ltb _ _ c.if-p-
 
 pub returns-then-q-a : goal.returns-then-q-a
 unfolding field_refusal
-returns-then-q-a c = let e = c in
-    let s = e.args in
-    simp (ne_eqb s.p 0 (omega arith), le-ltb _ _ e.if-p-gt6.false, le-leb (2 ^ s.p) s.a (omega arith))
+returns-then-q-a c = let s = c.args in
+    simp (ne_eqb s.p 0 (omega arith), le-ltb _ _ c.if-p-gt6.false, le-leb (2 ^ s.p) s.a (omega arith))
 
 pub returns-then-q-b : goal.returns-then-q-b
 unfolding field_refusal
-returns-then-q-b c = let e = c in
-    let s = e.args in
-    simp (ne_eqb s.p 0 (omega arith), le-ltb _ _ e.if-p-gt6.false, lt-leb (2 ^ s.p) s.a (omega arith), le-leb (2 ^ s.p) s.b (omega arith))
+returns-then-q-b c = let s = c.args in
+    simp (ne_eqb s.p 0 (omega arith), le-ltb _ _ c.if-p-gt6.false, lt-leb (2 ^ s.p) s.a (omega arith), le-leb (2 ^ s.p) s.b (omega arith))
 
 pub returns : goal.returns
 unfolding field_refusal
-returns c = let e = c in
-    let s = e.args in
-    simp (ne_eqb s.p 0 (omega arith), le-ltb _ _ e.if-p-gt6.false, lt-leb (2 ^ s.p) s.a (omega arith), lt-leb (2 ^ s.p) s.b (omega arith))
+returns c = let s = c.args in
+    simp (ne_eqb s.p 0 (omega arith), le-ltb _ _ c.if-p-gt6.false, lt-leb (2 ^ s.p) s.a (omega arith), lt-leb (2 ^ s.p) s.b (omega arith))

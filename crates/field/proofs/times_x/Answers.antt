@@ -8,8 +8,7 @@ use Rattle.field.proofs.times_x.Goals as goal
 
 pub returns : goal.returns
 unfolding times_x
-returns c = let s = c in
-    let p = s.args.p in
-    let a = s.args.a in
+returns c = let p = c.args.p in
+    let a = c.args.a in
     ap (bit_xor (a * 2 % 256)) c.masked.ensures
-    ∙ ap₂ (λ (x m : ℕ). bit_xor x (x / 2 ^ p % 2 * m)) (double_fits p a s.requires.0 s.requires.2) s.requires.1
+    ∙ ap₂ (λ (x m : ℕ). bit_xor x (x / 2 ^ p % 2 * m)) (double_fits p a c.requires.0 c.requires.2) c.requires.1

@@ -12,22 +12,17 @@ use Rattle.field_powers.proofs.put.Goals as goal
 
 pub returns : goal.returns
 returns c =
-    let t = c in
-    let a = t in
-    logging_end a.requires.0 a.requires.1 ((let fact : t.wide-round.result - 1 + 1 ≡ 2 ^ t.args.p = omega (arith, pow_pos t.args.p, t.wide-round.ensures, t.order.ensures) in fact)) a.args.room.now a.requires.2 c.loop-e.invariant c.loop-e-test.false
+    logging_end c.requires.0 c.requires.1 ((let fact : c.from-round.result - 1 + 1 ≡ 2 ^ c.args.p = omega (arith, pow_pos c.args.p, c.from-round.ensures, c.order.ensures) in fact)) c.args.room.now c.requires.2 c.loop-e.invariant c.loop-e-test.false
 
 pub loop-e-preserved : goal.loop-e-preserved
 loop-e-preserved c =
-    let s = c in
-    let t = s in
-    let a = t in
-    logging_more a.requires.0 a.requires.1 ((let fact : t.wide-round.result - 1 + 1 ≡ 2 ^ t.args.p = omega (arith, pow_pos t.args.p, t.wide-round.ensures, t.order.ensures) in fact)) a.args.room.now a.requires.2 s.loop-e.invariant s.loop-e-test.true c.double-symbol.ensures.0
+    logging_more c.requires.0 c.requires.1 ((let fact : c.from-round.result - 1 + 1 ≡ 2 ^ c.args.p = omega (arith, pow_pos c.args.p, c.from-round.ensures, c.order.ensures) in fact)) c.args.room.now c.requires.2 c.loop-e.invariant c.loop-e-test.true c.double-symbol.ensures.0
 
 pub overflow_sub-round : goal.overflow_sub-round
-overflow_sub-round c = omega (arith, pow_mono c.requires.0, c.wide-round.ensures, c.order.ensures)
+overflow_sub-round c = omega (arith, pow_mono c.requires.0, c.from-round.ensures, c.order.ensures)
 
 pub loop-e-init : goal.loop-e-init
-loop-e-init c = let a = c in logging_none _ _ a.args.room.now a.requires.2
+loop-e-init c = logging_none _ _ c.args.room.now c.requires.2
 
 pub overflow_cast-room : goal.overflow_cast-room
 overflow_cast-room c = omega (
@@ -38,7 +33,7 @@ overflow_cast-room c = omega (
 )
 
 pub bounds-room-e : goal.bounds-room-e
-bounds-room-e c = omega (arith, (let fact : c.wide-round.result - 1 ≤ 63 = let t = c in round_le _ t.requires.1 ((let fact : t.wide-round.result - 1 + 1 ≡ 2 ^ t.args.p = omega (arith, pow_pos t.args.p, t.wide-round.ensures, t.order.ensures) in fact)) in fact), (let fact : powers_end ≤ length c.loop-e.room = let a = c in omega (arith, c.loop-e.invariant.long, a.requires.2, length-set a.args.room.now 0 0) in fact), c.loop-e-test.true)
+bounds-room-e c = omega (arith, (let fact : c.from-round.result - 1 ≤ 63 = round_le _ c.requires.1 ((let fact : c.from-round.result - 1 + 1 ≡ 2 ^ c.args.p = omega (arith, pow_pos c.args.p, c.from-round.ensures, c.order.ensures) in fact)) in fact), (let fact : powers_end ≤ length c.loop-e.room = omega (arith, c.loop-e.invariant.long, c.requires.2, length-set c.args.room.now 0 0) in fact), c.loop-e-test.true)
 
 pub overflow_cast-room-in-loop-e : goal.overflow_cast-room-in-loop-e
 overflow_cast-room-in-loop-e c = omega (
@@ -49,7 +44,7 @@ overflow_cast-room-in-loop-e c = omega (
 )
 
 pub bounds-room-round : goal.bounds-room-round
-bounds-room-round c = let s = c.loop-e in omega (arith, (let fact : c.wide-round.result - 1 ≤ 63 = let t = c in round_le _ t.requires.1 ((let fact : t.wide-round.result - 1 + 1 ≡ 2 ^ t.args.p = omega (arith, pow_pos t.args.p, t.wide-round.ensures, t.order.ensures) in fact)) in fact), (let fact : powers_end ≤ length c.loop-e.room = let a = c in omega (arith, c.loop-e.invariant.long, a.requires.2, length-set a.args.room.now 0 0) in fact), c.loop-e-test.true, length-set s.room (64 + s.e) s.symbol)
+bounds-room-round c = let s = c.loop-e in omega (arith, (let fact : c.from-round.result - 1 ≤ 63 = round_le _ c.requires.1 ((let fact : c.from-round.result - 1 + 1 ≡ 2 ^ c.args.p = omega (arith, pow_pos c.args.p, c.from-round.ensures, c.order.ensures) in fact)) in fact), (let fact : powers_end ≤ length c.loop-e.room = omega (arith, c.loop-e.invariant.long, c.requires.2, length-set c.args.room.now 0 0) in fact), c.loop-e-test.true, length-set s.room (64 + s.e) s.symbol)
 
 pub overflow_cast-room-in-loop-e-3 : goal.overflow_cast-room-in-loop-e-3
 overflow_cast-room-in-loop-e-3 c = omega (
@@ -70,13 +65,13 @@ offset_bounds-room-symbol c = omega (
 pub bounds-room-symbol : goal.bounds-room-symbol
 bounds-room-symbol c =
     let s = c.loop-e in
-    let at = 64 + (c.wide-round.result - 1) + s.e in
+    let at = 64 + (c.from-round.result - 1) + s.e in
     omega (
       arith,
       (let fact : c.loop-e.symbol < 64 = let pre = c.requires in
           let s = c.loop-e in
           omega (arith, s.invariant.symbol_is, power_fits pre.0 pre.1 s.e) in fact),
-      (let fact : powers_end ≤ length c.loop-e.room = let a = c in omega (arith, c.loop-e.invariant.long, a.requires.2, length-set a.args.room.now 0 0) in fact),
+      (let fact : powers_end ≤ length c.loop-e.room = omega (arith, c.loop-e.invariant.long, c.requires.2, length-set c.args.room.now 0 0) in fact),
       length-set (set s.room (64 + s.e) s.symbol) at s.symbol,
       length-set s.room (64 + s.e) s.symbol,
     )

@@ -4,19 +4,13 @@ use mathlib.Core.Path.{◌≡◌, refl}
 use native.Mathlib.Omega.{arith}
 use lib.ListN.{length}
 use Rattle.spec_range.proofs.Loop.{over_none, over_more, over_table}
-use borrow.Author.Rules.{rules}
 use Rattle.matrix.proofs.clear.Goals as goal
 
 pub loop-k-init : goal.loop-k-init
-loop-k-init c = (search rules, over_none _ _)
+loop-k-init c = over_none _ _
 
 pub loop-k-preserved : goal.loop-k-preserved
-loop-k-preserved c = (search rules, over_more _ (omega arith) refl c.loop-k.invariant.1)
-
-pub shape_of-m : goal.shape_of-m
-shape_of-m c = c.loop-k.invariant.1.long
+loop-k-preserved c = over_more _ (omega arith) refl c.loop-k.invariant
 
 pub returns : goal.returns
-returns c =
-    let e : c.loop-k.k ≡ length c.args.m.now = omega arith in
-    over_table _ _ _ _ refl (rw e at c.loop-k.invariant.1)
+returns c = let e : c.loop-k.k ≡ length c.args.m.now = omega arith in over_table _ _ _ _ refl (rw e at c.loop-k.invariant)

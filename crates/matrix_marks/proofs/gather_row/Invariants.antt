@@ -1,12 +1,9 @@
 -- `matrix_marks::gather_row` meets its contract. The invariant: the columns below j are copied.
 -- Assumes nothing.
-use Prim.Native.Nat.{◌+◌, ◌-◌, ◌≤◌}
+use Prim.Native.Nat.{◌+◌}
 use Rattle.word_array.specs.Stored.{place}
 use Rattle.word_table.specs.Window.{Window}
 use Rattle.matrix_marks.proofs.gather_row.Given as goal
 
 abbrev pub invariant-loop-j : goal.invariant-loop-j
-invariant-loop-j l = (l.j ≤ l.n) × Window l.to l.j (λ j. place l.counts (l.from + j)) l.initial.m l.m
-
-abbrev pub decreases-loop-j : goal.decreases-loop-j
-decreases-loop-j l = l.n - l.j
+invariant-loop-j l = Window l.to l.j (λ j. place l.counts (l.from + j)) l.initial.m l.m

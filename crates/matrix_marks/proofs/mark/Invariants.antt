@@ -1,6 +1,6 @@
 -- `matrix_marks::mark` meets its contract. The invariant: the first b blocks are marked.
 -- Assumes nothing.
-use Prim.Native.Nat.{◌-◌, ◌*◌, ◌≤◌}
+use Prim.Native.Nat.{◌*◌}
 use lib.Dec.{eqb}
 use Rattle.spec_range.specs.Fold.{indicator}
 use Rattle.word_array.specs.Stored.{place}
@@ -8,7 +8,4 @@ use Rattle.word_table.specs.Window.{Window}
 use Rattle.matrix_marks.proofs.mark.Given as goal
 
 abbrev pub invariant-loop-b : goal.invariant-loop-b
-invariant-loop-b l = (l.b ≤ l.blocks) × Window l.to (64 * l.b) (λ j. indicator (eqb (place l.w j) l.s)) l.initial.v l.v
-
-abbrev pub decreases-loop-b : goal.decreases-loop-b
-decreases-loop-b l = l.blocks - l.b
+invariant-loop-b l = Window l.to (64 * l.b) (λ j. indicator (eqb (place l.w j) l.s)) l.initial.v l.v

@@ -6,17 +6,13 @@ use Rattle.spec_range.proofs.Loop.{held_none, held_more}
 use Rattle.word_array.specs.Stored.{place}
 use Rattle.word_table.proofs.Window.{held_table}
 use Rattle.matrix_marks.proofs.Marking.{byte}
-use borrow.Author.Rules.{rules}
 use Rattle.matrix_marks.proofs.marked.Goals as goal
 
 pub loop-j-init : goal.loop-j-init
-loop-j-init c = (search rules, held_none 64 _)
+loop-j-init c = held_none 64 _
 
 pub loop-j-preserved : goal.loop-j-preserved
-loop-j-preserved c =
-    let s = c in
-    let a = s.args in
-    (search rules, held_more _ (omega arith) (byte (eqb (place a.w s.loop-j.j) a.s)) s.loop-j.invariant.1)
+loop-j-preserved c = held_more _ (omega arith) (byte (eqb (place c.args.w c.loop-j.j) c.args.s)) c.loop-j.invariant
 
 pub returns : goal.returns
-returns c = held_table (omega arith) c.loop-j.invariant.1
+returns c = held_table (omega arith) c.loop-j.invariant

@@ -13,24 +13,17 @@ use borrow.Author.Rules.{rules}
 use Rattle.matrix_marks.proofs.raise.Goals as goal
 
 pub loop-j-init : goal.loop-j-init
-loop-j-init c = (search rules, window_none _ _ _)
+loop-j-init c = window_none _ _ _
 
 pub overflow_add-counts-in-loop-j : goal.overflow_add-counts-in-loop-j
 overflow_add-counts-in-loop-j c =
-    let s = c in
-    let f : Fits w8 (place s.args.row s.loop-j.j) = search rules in
-    search (rules, sum_fits _ _ f (le_trans (le_of_eq (s.loop-j.invariant.1.high _ (le_refl _))) (s.requires.1 _ (omega arith))))
+    let f : Fits w8 (place c.args.row c.loop-j.j) = search rules in
+    search (rules, sum_fits _ _ f (le_trans (le_of_eq (c.loop-j.invariant.high _ (le_refl _))) (c.requires.1 _ (omega arith))))
 
 pub loop-j-preserved : goal.loop-j-preserved
 loop-j-preserved c =
-    let s = c in
-    let e = ap (λ (x : ℕ). x + place s.args.row s.loop-j.j) (s.loop-j.invariant.1.high _ (le_refl _)) in
-    (search rules, window_more _ (omega arith) e s.loop-j.invariant.1)
-
-pub shape_of-counts : goal.shape_of-counts
-shape_of-counts c = c.loop-j.invariant.1.long
+    let e = ap (λ (x : ℕ). x + place c.args.row c.loop-j.j) (c.loop-j.invariant.high _ (le_refl _)) in
+    window_more _ (omega arith) e c.loop-j.invariant
 
 pub returns : goal.returns
-returns c =
-    let e : c.loop-j.j ≡ 64 = omega arith in
-    rw e at c.loop-j.invariant.1
+returns c = let e : c.loop-j.j ≡ 64 = omega arith in rw e at c.loop-j.invariant

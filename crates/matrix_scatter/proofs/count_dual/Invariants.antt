@@ -11,6 +11,3 @@ use Rattle.matrix_scatter.proofs.count_dual.Given as goal
 abbrev pub invariant-loop-i : goal.invariant-loop-i
 invariant-loop-i l =
     (l.last ≡ 2 ^ l.p - 1) × Adding (weight_in l.terms) (term_adds (stride l.n) l.l l.p l.n l.cells l.terms) l.initial.counts l.counts l.i
-
-abbrev pub decreases-loop-i : goal.decreases-loop-i
-decreases-loop-i l = l.weight - l.i

@@ -8,49 +8,26 @@ use Rattle.matrix_scatter.proofs.Whole.{scattering, rows_filled}
 use Rattle.matrix_scatter.proofs.fill_by.Goals as goal
 
 pub count_duals-requires : goal.count_duals-requires
-count_duals-requires c = let pre = c.requires in scattering pre.0 pre.1 pre.2
+count_duals-requires c = scattering c.requires.0 c.requires.1 c.requires.2
 
 pub gather-requires : goal.gather-requires
-gather-requires c =
-    let s = c in
-    let pre = s.requires in
-    let x = pre.0.terms_of.numbers in
-    record {
-      sizes = x.sizes;
-      logged = logged x;
-      long = omega (arith, pre.2.size, s.count_duals.auto);
-      small = s.count_duals.ensures.most;
-      size = pre.0.size;
-    }
-
-pub overflow_cast-duals : goal.overflow_cast-duals
-overflow_cast-duals c =
-    let s = c in
-    omega (arith, s.requires.0.terms_of.numbers.few_duals)
-
-pub bounds-terms-0 : goal.bounds-terms-0
-bounds-terms-0 c =
-    let s = c in
-    omega (arith, s.requires.0.terms_of.numbers.long)
+gather-requires c = record {
+  sizes = c.requires.0.terms_of.numbers.sizes;
+  logged = logged c.requires.0.terms_of.numbers;
+  long = omega (arith, c.requires.2.size, c.count_duals.auto);
+  small = c.count_duals.ensures.most;
+  size = c.requires.0.size;
+}
 
 pub overflow_mul-duals : goal.overflow_mul-duals
-overflow_mul-duals c =
-    let s = c in
-    omega (arith, all_le s.requires.0.terms_of.numbers)
+overflow_mul-duals c = omega (arith, all_le c.requires.0.terms_of.numbers)
 
 pub row_zero-requires : goal.row_zero-requires
-row_zero-requires c =
-    let s = c in
-    let t = s in
-    let pre = t.requires.0 in
-    let h = pre.terms_of in
-    let x = h.numbers.sizes in
-    let g = s.gather.ensures in
-    (x, g.long ∙ pre.size, column_room x (rows_filled h t.count_duals.ensures g) refl)
+row_zero-requires c = (
+  c.requires.0.terms_of.numbers.sizes,
+  c.gather.ensures.long ∙ c.requires.0.size,
+  column_room c.requires.0.terms_of.numbers.sizes (rows_filled c.requires.0.terms_of c.count_duals.ensures c.gather.ensures) refl,
+)
 
 pub returns : goal.returns
-returns c =
-    let s = c in
-    let t = s in
-    let u = t in
-    λ b h. filled h.numbers.sizes (rows_filled h u.count_duals.ensures t.gather.ensures) refl s.row_zero.ensures
+returns c = λ b h. filled h.numbers.sizes (rows_filled h c.count_duals.ensures c.gather.ensures) refl c.row_zero.ensures

@@ -5,26 +5,16 @@ use Prim.Native.Nat.{◌+◌}
 use native.Mathlib.Omega.{arith}
 use Rattle.word_table.proofs.Window.{window_none, window_more}
 use Rattle.matrix_scatter.proofs.Gathering.{row_gathered}
-use borrow.Author.Rules.{rules}
 use Rattle.matrix_scatter.proofs.gather_row.Goals as goal
 
 pub loop-j-init : goal.loop-j-init
-loop-j-init c = (search rules, window_none _ _ _)
+loop-j-init c = window_none _ _ _
 
 pub overflow_add-m-in-loop-j-2 : goal.overflow_add-m-in-loop-j-2
-overflow_add-m-in-loop-j-2 c =
-    let s = c in
-    let t = s in
-    omega (arith, t.requires.3 (t.args.low + s.loop-j.j), t.requires.3 (t.args.high + s.loop-j.j))
+overflow_add-m-in-loop-j-2 c = omega (arith, c.requires.3 (c.args.low + c.loop-j.j), c.requires.3 (c.args.high + c.loop-j.j))
 
 pub loop-j-preserved : goal.loop-j-preserved
-loop-j-preserved c =
-    let s = c in
-    let t = s in
-    (search rules, window_more _ (omega (arith, s.loop-j.invariant.1.long, t.requires.0)) refl s.loop-j.invariant.1)
-
-pub shape_of-m : goal.shape_of-m
-shape_of-m c = c.loop-j.invariant.1.long
+loop-j-preserved c = window_more _ (omega (arith, c.loop-j.invariant.long, c.requires.0)) refl c.loop-j.invariant
 
 pub returns : goal.returns
-returns c = row_gathered (omega (arith, c.loop-j.invariant.0)) c.loop-j.invariant.1
+returns c = row_gathered (omega arith) c.loop-j.invariant

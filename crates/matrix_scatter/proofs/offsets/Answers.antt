@@ -8,12 +8,6 @@ use Rattle.matrix_scatter.proofs.offsets.Goals as goal
 pub loop-j-init : goal.loop-j-init
 loop-j-init c = doubling_none _ _ _ _
 
-pub overflow_cast-to : goal.overflow_cast-to
-overflow_cast-to c = omega (arith, c.requires.3.symbol _ c.loop-j-test.true)
-
-pub offset_bounds-starts-w : goal.offset_bounds-starts-w
-offset_bounds-starts-w c = omega (arith, c.requires.3.symbol _ c.loop-j-test.true)
-
 pub bounds-starts-w : goal.bounds-starts-w
 bounds-starts-w c = omega (arith, c.requires.3.symbol _ c.loop-j-test.true)
 
@@ -28,9 +22,6 @@ bounds-out-n c = simp length-set (omega (arith, c.loop-j.invariant.long))
 
 pub loop-j-preserved : goal.loop-j-preserved
 loop-j-preserved c = doubling_more c.loop-j.invariant c.requires.2 c.loop-j-test.true
-
-pub shape_of-out : goal.shape_of-out
-shape_of-out c = c.loop-j.invariant.long
 
 pub returns : goal.returns
 returns c = doubling_end c.loop-j.invariant c.loop-j-test.false

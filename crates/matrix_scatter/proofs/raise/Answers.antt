@@ -1,11 +1,7 @@
 -- `matrix_scatter::raise` meets its contract.
 -- Assumes nothing.
-use native.Mathlib.Omega.{arith}
 use Rattle.matrix_terms.proofs.Raised.{raised_one}
 use Rattle.matrix_scatter.proofs.raise.Goals as goal
 
 pub returns : goal.returns
 returns c = raised_one _ _ c.requires.0
-
-pub overflow_add-counts : goal.overflow_add-counts
-overflow_add-counts c = omega (arith, c.requires.1)

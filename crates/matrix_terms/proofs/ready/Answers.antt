@@ -5,4 +5,4 @@ use Rattle.matrix_terms.proofs.Rows.{still_listed}
 use Rattle.matrix_terms.proofs.ready.Goals as goal
 
 pub returns-else-terms-eq0 : goal.returns-else-terms-eq0
-returns-else-terms-eq0 c = let pre = c.requires in (still_listed pre.2 c.if-terms-eq0.false, refl)
+returns-else-terms-eq0 c = (still_listed c.requires.2 c.if-terms-eq0.false, refl)

@@ -10,14 +10,11 @@ pub loop-j-init : goal.loop-j-init
 loop-j-init c = over_none _ _
 
 pub overflow_sub-left : goal.overflow_sub-left
-overflow_sub-left c =
-    let s = c in
-    next_covered s.requires c.loop-j-test.true s.loop-j.invariant
+overflow_sub-left c = next_covered c.requires c.loop-j-test.true c.loop-j.invariant
 
 pub loop-j-preserved : goal.loop-j-preserved
 loop-j-preserved c =
-    let s = c.loop-j in
-    over_more _ (omega (arith, s.invariant.long)) (rw (s.invariant.rest _ (le_refl s.j))) s.invariant
+    over_more _ (omega (arith, c.loop-j.invariant.long)) (rw (c.loop-j.invariant.rest _ (le_refl c.loop-j.j))) c.loop-j.invariant
 
 pub returns : goal.returns
 returns c = subtracted c.requires c.loop-j-test.false c.loop-j.invariant

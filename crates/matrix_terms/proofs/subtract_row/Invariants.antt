@@ -7,6 +7,3 @@ use Rattle.matrix_terms.proofs.subtract_row.Given as goal
 
 abbrev pub invariant-loop-j : goal.invariant-loop-j
 invariant-loop-j l = Over l.j (λ j. place l.initial.left j - place l.m (l.from + j)) l.initial.left l.left
-
-abbrev pub decreases-loop-j : goal.decreases-loop-j
-decreases-loop-j l = l.n - l.j

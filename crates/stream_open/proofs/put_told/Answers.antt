@@ -6,14 +6,11 @@ use Rattle.stream_open.proofs.put_told.Goals as goal
 
 pub put_refusal-requires : goal.put_refusal-requires
 put_refusal-requires c =
-    let small = rw c.in-Refused.is at c.requires.0 in
+    let small = rw c.in-Err.is at c.requires.0 in
     (omega arith, omega arith)
 
-pub returns-in-Coming : goal.returns-in-Coming
-returns-in-Coming c = (rw c.in-Coming.is (printed_none _ _), omega arith)
+pub returns-in-Ok : goal.returns-in-Ok
+returns-in-Ok c = (rw c.in-Ok.is (printed_none _ _), omega arith)
 
-pub returns-in-Open : goal.returns-in-Open
-returns-in-Open c = (rw c.in-Open.is (printed_none _ _), omega arith)
-
-pub returns-in-Refused : goal.returns-in-Refused
-returns-in-Refused c = (rw c.in-Refused.is c.put_refusal.ensures.printed, omega arith)
+pub returns-in-Err : goal.returns-in-Err
+returns-in-Err c = (rw (c.in-Err.is, ← c.from.ensures) c.put_refusal.ensures.printed, omega arith)

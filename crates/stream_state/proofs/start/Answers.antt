@@ -1,6 +1,6 @@
 -- `stream_state::start` meets its contract: no byte came, so the length field is still coming.
 -- Assumes nothing.
-use mathlib.Core.Path.{refl, sym}
+use mathlib.Core.Path.{refl}
 use mathlib.Core.List.{[]}
 use native.Mathlib.Omega.{arith}
 use Rattle.spec_program.proofs.Opening.{verdict_short_field}
@@ -16,7 +16,7 @@ returns c = (
         sized =
             record {
               field_size = refl;
-              book_size = sym c.book_room-book.ensures;
+              book_size = refl;
               begun_size = refl;
               got_le = omega arith;
               came_le = omega arith;

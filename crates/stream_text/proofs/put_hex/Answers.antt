@@ -11,22 +11,14 @@ use Rattle.stream_text.proofs.put_hex.Goals as goal
 
 pub loop-i-init : goal.loop-i-init
 unfolding hex_of
-loop-i-init c = (omega arith, omega arith, printed_none _ _)
+loop-i-init c = (omega arith, printed_none _ _)
 
 pub loop-i-preserved : goal.loop-i-preserved
 loop-i-preserved c =
-    let digits =
-    printed_then (rw c.digit.ensures at c.put-high.ensures) (rw c.digit-in-loop-i.ensures at c.put-next.ensures) in (
-      omega arith,
-      omega arith,
-      rw (hex_of_suc c.args.bytes.now c.loop-i.i (omega arith)) (printed_then c.loop-i.invariant.2 digits),
-    )
+    let digits = printed_then (rw c.digit.ensures at c.put-high.ensures) (rw c.digit-in-loop-i.ensures at c.put-next.ensures) in
+    (omega arith, rw (hex_of_suc c.args.bytes.now c.loop-i.i (omega arith)) (printed_then c.loop-i.invariant.1 digits))
 
 pub returns : goal.returns
 returns c =
-    let bytes = c.args.bytes.now in
-    let all : c.loop-i.i ≡ length bytes = omega arith in
-    record {
-      printed = rw (all, take-length) at c.loop-i.invariant.2;
-      value = omega arith;
-    }
+    let all : c.loop-i.i ≡ length c.args.bytes.now = omega arith in
+    record { printed = rw (all, take-length) at c.loop-i.invariant.1; value = omega arith }

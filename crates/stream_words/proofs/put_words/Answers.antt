@@ -1,88 +1,73 @@
--- `stream_words::put_words` meets its contract. The invariant: the first i bytes are whole words, and their lines are written.
+-- `stream_words::put_words` meets its contract. The invariant: the lines that are written, and those of what is left, are all.
 -- Assumes nothing.
-use mathlib.Core.Path.{◌≡◌, refl, sym, ◌∙◌}
-use Prim.Native.Nat.{◌+◌, ◌-◌}
-use native.Mathlib.Nat.{zero-mod, add-mod_right}
+use mathlib.Core.Path.{refl, sym, ap, ◌∙◌}
+use mathlib.Core.List.{List, [], ◌++◌, append_assoc, append-nil}
+use Prim.Native.Nat.{pred}
 use native.Mathlib.Omega.{arith}
-use lib.ListN.{length}
-use lib.Seq.{take-length}
 use Rattle.stream_text.proofs.Printing.{printed_none, printed_then}
-use Rattle.stream_words.proofs.Blocks.{word_low, text_none, text_next, text_row, next_fits}
+use Rattle.stream_words.proofs.Blocks.{word_low, row_length, left_next, lines_next, lines_end}
 use Rattle.stream_words.proofs.put_words.Goals as goal
 
-pub loop-i-init : goal.loop-i-init
-loop-i-init c = record {
-  within = omega arith;
-  whole = zero-mod _;
-  ready = c.requires.0;
-  terms_kept = refl;
-  room = omega arith;
-  lines = rw (text_none c.args.book.now c.args.c c.requires.0.describes) (printed_none _ _);
-}
+pub chunks_exact-word-items-requires : goal.chunks_exact-word-items-requires
+chunks_exact-word-items-requires c = omega (arith, word_low _ _ c.requires.0.describes)
 
-pub overflow_add-e : goal.overflow_add-e
-overflow_add-e c =
-    let fits = next_fits c.args.c.n c.args.count c.loop-i.i _ c.loop-i.invariant.whole c.requires.1 c.loop-i-test.true in
-    omega arith
-
-pub slice_bounds-put_word-end : goal.slice_bounds-put_word-end
-slice_bounds-put_word-end c =
-    let fits = next_fits c.args.c.n c.args.count c.loop-i.i _ c.loop-i.invariant.whole c.requires.1 c.loop-i-test.true in
-    omega arith
+pub loop-word-init : goal.loop-word-init
+loop-word-init c =
+    rw (c.into_iter-word-iterator.ensures.into_iter_gives, c.chunks_exact-word-items.ensures.rest, c.chunks_exact-word-items.ensures.size) (
+      omega (arith, word_low _ _ c.requires.0.describes),
+      tt,
+      refl,
+      record {
+        ready = c.requires.0;
+        left = c.args.count;
+        whole = c.requires.1;
+        text = [];
+        lines = printed_none _ _;
+        all = refl;
+        room = omega arith;
+      },
+    )
 
 pub put_word-next-requires : goal.put_word-next-requires
 put_word-next-requires c =
-    let ready = c.loop-i.invariant.ready in
-    let low = word_low _ _ ready.describes in
-    let fits = next_fits c.args.c.n c.args.count c.loop-i.i _ c.loop-i.invariant.whole c.requires.1 c.loop-i-test.true in
-    (ready, omega arith)
+    let row = c.loop-word.invariant.3 in
+    let word = c.in-Some.ensures.steps.1 in
+    let d = row.ready.describes in
+    (row.ready, omega (arith, word_low _ _ d, row_length _ _ d _ _ word.0 (word.1 ∙ c.loop-word.invariant.2), row.room))
 
-pub loop-i-smaller : goal.loop-i-smaller
-loop-i-smaller c =
-    let low = word_low _ _ c.loop-i.invariant.ready.describes in
-    let fits = next_fits c.args.c.n c.args.count c.loop-i.i _ c.loop-i.invariant.whole c.requires.1 c.loop-i-test.true in
-    omega arith
-
-pub loop-i-preserved : goal.loop-i-preserved
-loop-i-preserved c =
-    let inv = c.loop-i.invariant in
-    let i = c.loop-i.i in
-    let n = c.args.c.n in
-    let word = c.put_word-next.ensures in
-    let low = word_low _ _ inv.ready.describes in
-    let fits = next_fits n c.args.count i _ inv.whole c.requires.1 c.loop-i-test.true in
-    let size : i + n - i ≡ n = omega arith in
-    let next = text_next c.args.book.now c.args.c inv.ready.describes c.args.words.now i inv.whole in
-    record {
-      within = omega arith;
-      whole = add-mod_right i n ∙ inv.whole;
-      ready = record {
-        describes = inv.ready.describes;
-        table_is = inv.ready.table_is;
-        terms_are = word.2;
-        answer_size = omega arith;
-        matrix_size = omega arith;
-      };
-      terms_kept = omega arith;
-      room = omega arith;
-      lines = rw (next fits) (printed_then inv.lines (rw size at word.0));
-    }
-
-pub shape_of-terms : goal.shape_of-terms
-shape_of-terms c = omega arith
-
-pub shape_of-answer : goal.shape_of-answer
-shape_of-answer c = omega arith
-
-pub shape_of-entries : goal.shape_of-entries
-shape_of-entries c = omega arith
-
-pub shape_of-out : goal.shape_of-out
-shape_of-out c = omega arith
+pub loop-word-preserved : goal.loop-word-preserved
+loop-word-preserved c =
+    let row = c.loop-word.invariant.3 in
+    let cut = c.in-Some.ensures.steps.1.0 in
+    let size = c.in-Some.ensures.steps.1.1 ∙ c.loop-word.invariant.2 in
+    let d = row.ready.describes in
+    let low = word_low _ _ d in
+    let line = c.put_word-next.ensures in
+    (
+      omega arith,
+      tt,
+      c.in-Some.ensures.steps.0 ∙ c.loop-word.invariant.2,
+      record {
+        ready = record {
+          describes = d;
+          table_is = row.ready.table_is;
+          terms_are = line.2;
+          answer_size = omega (arith, row.ready.answer_size);
+          matrix_size = omega (arith, row.ready.matrix_size);
+        };
+        left = pred row.left;
+        whole = left_next _ _ d _ _ cut size row.left row.whole;
+        text = row.text ++ _;
+        lines = printed_then row.lines line.0;
+        all = row.all
+            ∙ ap (λ (lines : List _). row.text ++ lines) (lines_next _ _ d _ _ cut size row.left row.whole)
+            ∙ sym (append_assoc row.text _ _);
+        room = omega (arith, row_length _ _ d _ _ cut size, row.room);
+      },
+    )
 
 pub returns : goal.returns
 returns c =
-    let inv = c.loop-i.invariant in
-    let all : c.loop-i.i ≡ length c.args.words.now = omega arith in
-    let row = text_row c.args.book.now c.args.c inv.ready.describes c.args.count c.args.words.now c.requires.1 in
-    (rw (sym row) (rw (all, take-length) at inv.lines), omega arith, inv.ready.terms_are)
+    let row = c.loop-word.invariant.3 in
+    let none = lines_end _ _ row.ready.describes row.left _ (omega (arith, c.in-None.ensures.steps)) row.whole in
+    (rw (row.all, none, append-nil) row.lines, omega (arith, row.room), row.ready.terms_are)

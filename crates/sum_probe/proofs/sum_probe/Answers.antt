@@ -20,16 +20,13 @@ store-requires c =
 
 pub returns-then-fits : goal.returns-then-fits
 returns-then-fits c =
-    let test = c in
-    let start = test in
-    let sum = sym test.fits.ensures ∙ test.if-fits.true in (
+    let sum = sym c.fits.ensures ∙ c.if-fits.true in (
       rw sum,
-      written start.args.a.now start.args.b.now start.args.out.now sum c.add-w.ensures
+      written c.args.a.now c.args.b.now c.args.out.now sum c.add-w.ensures
           c.store.ensures,
     )
 
 pub returns : goal.returns
 returns c =
-    let start = c in
     let no-sum = sym c.fits.ensures ∙ c.if-fits.false in
-    (rw no-sum, refused start.args.a.now start.args.b.now start.args.out.now no-sum)
+    (rw no-sum, refused c.args.a.now c.args.b.now c.args.out.now no-sum)

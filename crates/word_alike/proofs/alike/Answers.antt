@@ -11,28 +11,23 @@ use Rattle.word_alike.proofs.alike.Goals as goal
 
 pub lay-requires : goal.lay-requires
 lay-requires c =
-    let s = c in
-    (s.requires.sizes.n_low, s.requires.sizes.n_high, s.requires.room, omega (arith, blocks_high s.args.n, s.requires.sizes.n_high))
+    let h = c.requires in
+    (h.sizes.n_low, h.sizes.n_high, h.room, omega (arith, blocks_high c.args.n, h.sizes.n_high))
 
 pub loop-k-init : goal.loop-k-init
 loop-k-init c = passing_none _ _
 
 pub turn_ok-requires : goal.turn_ok-requires
 turn_ok-requires c =
-    let lay = c in
-    let h = c.requires in
-    (h.sizes.n_high, search rules, lay.lay.ensures.long, row_fits h lay.lay.ensures c.loop-k.k (search rules))
+    (c.requires.sizes.n_high, search rules, c.lay.ensures.long, row_fits c.requires c.lay.ensures c.loop-k.k (search rules))
 
 pub returns-then-turn_ok : goal.returns-then-turn_ok
 returns-then-turn_ok c =
-    let lay = c in
     ap not (passing_fails c.loop-k.invariant (search rules) (ap not (sym c.turn_ok.ensures ∙ c.if-turn_ok.true)))
-    ∙ alike_compared lay.requires lay.lay.ensures
+    ∙ alike_compared c.requires c.lay.ensures
 
 pub loop-k-preserved : goal.loop-k-preserved
 loop-k-preserved c = passing_more c.loop-k.invariant (search rules) (ap not (sym c.turn_ok.ensures ∙ c.if-turn_ok.false))
 
 pub returns : goal.returns
-returns c =
-    let lay = c in
-    ap not (passing_end c.loop-k.invariant (search rules)) ∙ alike_compared lay.requires lay.lay.ensures
+returns c = ap not (passing_end c.loop-k.invariant (search rules)) ∙ alike_compared c.requires c.lay.ensures

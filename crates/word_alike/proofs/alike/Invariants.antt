@@ -1,7 +1,6 @@
 -- `word_alike::alike` meets its contract. The invariant: no turn below k fits.
 -- Assumes nothing.
 use mathlib.Core.Bool.{not}
-use Prim.Native.Nat.{◌-◌}
 use Rattle.spec_range.proofs.Loop.{Passing}
 use Rattle.sizes.specs.Blocks.{stride}
 use Rattle.word_alike.specs.Compared.{turn_ok}
@@ -9,6 +8,3 @@ use Rattle.word_alike.proofs.alike.Given as goal
 
 abbrev pub invariant-loop-k : goal.invariant-loop-k
 invariant-loop-k l = Passing l.n (λ k. not (turn_ok (stride l.n) l.n l.d k l.t)) l.k
-
-abbrev pub decreases-loop-k : goal.decreases-loop-k
-decreases-loop-k l = l.n - l.k

@@ -4,14 +4,13 @@ use mathlib.Core.Path.{refl}
 use native.Mathlib.Omega.{arith}
 use Rattle.spec_range.proofs.Loop.{held_none, held_more}
 use Rattle.word_array.proofs.Filled.{held_end}
-use borrow.Author.Rules.{rules}
 use Rattle.word_alike.proofs.inside.Goals as goal
 
 pub loop-j-init : goal.loop-j-init
-loop-j-init c = (search rules, held_none 256 _)
+loop-j-init c = held_none 256 _
 
 pub loop-j-preserved : goal.loop-j-preserved
-loop-j-preserved c = (search rules, held_more _ (omega arith) refl c.loop-j.invariant.1)
+loop-j-preserved c = held_more _ (omega arith) refl c.loop-j.invariant
 
 pub returns : goal.returns
-returns c = held_end (omega arith) c.loop-j.invariant.1
+returns c = held_end (omega arith) c.loop-j.invariant

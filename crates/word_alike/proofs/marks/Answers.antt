@@ -8,7 +8,6 @@ use Rattle.spec_range.proofs.Loop.{held_none, held_more}
 use Rattle.word_array.specs.Stored.{place}
 use Rattle.word_table.proofs.Window.{held_table}
 use Rattle.word_alike.specs.Signature.{mark_at}
-use borrow.Author.Rules.{rules}
 use Rattle.std.proofs.lemmas.Nat.{and_le_l}
 use Rattle.word_alike.proofs.marks.Goals as goal
 
@@ -16,11 +15,10 @@ pub loop-j-preserved : goal.loop-j-preserved
 unfolding mark_at
 loop-j-preserved c =
     let s = c.args in
-    let at = c.loop-j in
-    (search rules, held_more _ (omega arith) (ap (λ (x : ℕ). bit_and x (place s.inside.now (s.at + at.j))) c.mark-m.ensures) at.invariant.1)
+    held_more _ (omega arith) (ap (λ (x : ℕ). bit_and x (place s.inside.now (s.at + c.loop-j.j))) c.mark-m.ensures) c.loop-j.invariant
 
 pub loop-j-init : goal.loop-j-init
-loop-j-init c = (search rules, held_none 64 _)
+loop-j-init c = held_none 64 _
 
 pub overflow_add-j-in-loop-j-3 : goal.overflow_add-j-in-loop-j-3
 overflow_add-j-in-loop-j-3 c = omega (arith, and_le_l 12 c.args.n)
@@ -41,4 +39,4 @@ pub bounds-rows-from-in-loop-j-5 : goal.bounds-rows-from-in-loop-j-5
 bounds-rows-from-in-loop-j-5 c = omega (arith, and_le_l 20 c.args.n)
 
 pub returns : goal.returns
-returns c = held_table (omega arith) c.loop-j.invariant.1
+returns c = held_table (omega arith) c.loop-j.invariant

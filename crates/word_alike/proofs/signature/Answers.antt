@@ -7,19 +7,18 @@ use lib.ListN.{length}
 use Rattle.spec_range.proofs.Loop.{padded-length}
 use Rattle.word_array.specs.Stored.{place}
 use Rattle.word_alike.proofs.Signing.{signed_to_none, signed_to_more, signed_to_end}
-use borrow.Author.Rules.{rules}
 use Rattle.word_alike.proofs.signature.Goals as goal
 
 pub returns : goal.returns
 returns c =
-    let s = c in
-    let all : c.loop-b.b ≡ s.args.blocks = omega (arith, c.loop-b.invariant.0) in
-    signed_to_end (λ j. place s.args.rows.now (s.args.from + j)) s.requires.0 s.requires.1 s.requires.3 (rw all at c.loop-b.invariant.1)
+    let s = c.requires in
+    let all : c.loop-b.b ≡ c.args.blocks = omega arith in
+    signed_to_end (λ j. place c.args.rows.now (c.args.from + j)) s.0 s.1 s.3 (rw all at c.loop-b.invariant)
 
 pub loop-b-init : goal.loop-b-init
 loop-b-init c =
     let s = c.args in
-    (search rules, signed_to_none s.n (λ j. place s.rows.now (s.from + j)) s.inside.now)
+    signed_to_none s.n (λ j. place s.rows.now (s.from + j)) s.inside.now
 
 pub marks-m-requires : goal.marks-m-requires
 marks-m-requires c =
@@ -28,7 +27,5 @@ marks-m-requires c =
 
 pub loop-b-preserved : goal.loop-b-preserved
 loop-b-preserved c =
-    let now = c.loop-b in
     let s = c.args in
-    let marks = c.marks-m.ensures in
-    (search rules, signed_to_more s.n s.from now.b s.rows.now s.inside.now now.invariant.1 marks c.squares-sum.ensures)
+    signed_to_more s.n s.from c.loop-b.b s.rows.now s.inside.now c.loop-b.invariant c.marks-m.ensures c.squares-sum.ensures

@@ -10,13 +10,10 @@ use borrow.Author.Rules.{rules}
 use Rattle.word_array.proofs.add.Goals as goal
 
 pub loop-j-init : goal.loop-j-init
-loop-j-init c = let cut = c in
-    let places = cut in
-    let start = places in
-    let whole = places.packed_places-whole.ensures in (
+loop-j-init c = let whole = c.packed_places-whole.ensures in (
       omega (arith, whole),
-      held_front (omega (arith, whole, start.requires.0))
-          (front_sum start.args.a.now start.args.b.now _ (omega (arith, cut.w-1.given.1)) c.add_eights.ensures),
+      held_front (omega (arith, whole, c.requires.0))
+          (front_sum c.args.a.now c.args.b.now _ (omega (arith, c.w-1.given.1)) c.add_eights.ensures),
     )
 
 pub loop-j-preserved : goal.loop-j-preserved

@@ -20,13 +20,11 @@ pub pack-y-requires : goal.pack-y-requires
 pack-y-requires c = omega (arith, c.pack-arg-in-loop-i-1.given.1)
 
 pub loop-i-preserved : goal.loop-i-preserved
-loop-i-preserved c = let second = c in
-    let turn = second in
-    let start = turn in (
+loop-i-preserved c = (
       search rules,
-      over_part refl (omega arith) (omega (arith, turn.loop-i.invariant.1.long)) c.unpack.ensures
-          (part-sum start.args.a.now start.args.b.now _ second.pack-x.ensures second.pack-y.ensures)
-          turn.loop-i.invariant.1,
+      over_part refl (omega arith) (omega (arith, c.loop-i.invariant.1.long)) c.unpack.ensures
+          (part-sum c.args.a.now c.args.b.now _ c.pack-x.ensures c.pack-y.ensures)
+          c.loop-i.invariant.1,
     )
 
 pub shape_of-out : goal.shape_of-out

@@ -4,6 +4,4 @@ use Rattle.word_divide.proofs.Dividing.{added_written}
 use Rattle.word_divide.proofs.add_block_at.Goals as goal
 
 pub returns : goal.returns
-returns c =
-    let added = c in
-    added_written added.block-sum.ensures added.add_block.ensures c.put_block.ensures
+returns c = added_written c.block-sum.ensures c.add_block.ensures c.put_block.ensures

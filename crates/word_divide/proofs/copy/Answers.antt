@@ -4,17 +4,13 @@ use mathlib.Core.Path.{◌≡◌, refl}
 use native.Mathlib.Omega.{arith}
 use Rattle.spec_range.proofs.Loop.{over_none, over_more}
 use Rattle.word_table.proofs.Window.{over_window}
-use borrow.Author.Rules.{rules}
 use Rattle.word_divide.proofs.copy.Goals as goal
 
 pub loop-j-init : goal.loop-j-init
-loop-j-init c = (search rules, over_none _ _)
+loop-j-init c = over_none _ _
 
 pub loop-j-preserved : goal.loop-j-preserved
-loop-j-preserved c = (search rules, over_more _ (omega arith) refl c.loop-j.invariant.1)
-
-pub shape_of-v : goal.shape_of-v
-shape_of-v c = c.loop-j.invariant.1.long
+loop-j-preserved c = over_more _ (omega arith) refl c.loop-j.invariant
 
 pub returns : goal.returns
-returns c = let e : c.loop-j.j ≡ c.args.n = omega arith in over_window (rw e at c.loop-j.invariant.1)
+returns c = let e : c.loop-j.j ≡ c.args.n = omega arith in over_window (rw e at c.loop-j.invariant)

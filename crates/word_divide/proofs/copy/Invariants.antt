@@ -1,12 +1,8 @@
 -- `word_divide::copy` meets its contract. The invariant: the places below j are the word's.
 -- Assumes nothing.
-use Prim.Native.Nat.{◌-◌, ◌≤◌}
 use Rattle.spec_range.proofs.Loop.{Over}
 use Rattle.word_array.specs.Stored.{place}
 use Rattle.word_divide.proofs.copy.Given as goal
 
 abbrev pub invariant-loop-j : goal.invariant-loop-j
-invariant-loop-j l = (l.j ≤ l.n) × Over l.j (place l.w) l.initial.v l.v
-
-abbrev pub decreases-loop-j : goal.decreases-loop-j
-decreases-loop-j l = l.n - l.j
+invariant-loop-j l = Over l.j (place l.w) l.initial.v l.v

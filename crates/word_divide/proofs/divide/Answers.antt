@@ -8,12 +8,8 @@ use Rattle.word_divide.proofs.divide.Goals as goal
 
 pub divide_in-requires : goal.divide_in-requires
 divide_in-requires c =
-    let copy = c in
-    let s = copy.requires in
-    (dividend s.0 s.1 s.2 (search rules) (search rules) s.5 s.6 copy.copy.ensures s.4.symbol, s.7)
+    let s = c.requires in
+    (dividend s.0 s.1 s.2 (search rules) (search rules) s.5 s.6 c.copy.ensures s.4.symbol, s.7)
 
 pub returns : goal.returns
-returns c =
-    let copy = c in
-    let s = copy in
-    divided_same _ (place s.args.w.now) s.requires.0 s.requires.1 (window_at copy.copy.ensures) c.divide_in.ensures
+returns c = divided_same _ (place c.args.w.now) c.requires.0 c.requires.1 (window_at c.copy.ensures) c.divide_in.ensures

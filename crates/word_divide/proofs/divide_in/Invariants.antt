@@ -7,6 +7,3 @@ use Rattle.word_divide.proofs.divide_in.Given as goal
 
 abbrev pub invariant-loop-i : goal.invariant-loop-i
 invariant-loop-i l = Dividing (stride l.n) l.p l.n l.d l.k l.t l.initial.v l.initial.quotient l.i l.quotient l.v
-
-abbrev pub decreases-loop-i : goal.decreases-loop-i
-decreases-loop-i l = l.i

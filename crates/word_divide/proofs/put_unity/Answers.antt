@@ -5,17 +5,15 @@ use native.Mathlib.Omega.{arith}
 use Rattle.spec_range.proofs.Loop.{over_none, over_more}
 use Rattle.word_table.proofs.Window.{over_window}
 use Rattle.word_divide.proofs.Dividing.{unity_put}
-use borrow.Author.Rules.{rules}
 use Rattle.word_divide.proofs.put_unity.Goals as goal
 
 pub loop-j-init : goal.loop-j-init
-loop-j-init c = (search rules, over_none _ _)
+loop-j-init c = over_none _ _
 
 pub loop-j-preserved : goal.loop-j-preserved
-loop-j-preserved c = (search rules, over_more _ (omega arith) refl c.loop-j.invariant.1)
+loop-j-preserved c = over_more _ (omega arith) refl c.loop-j.invariant
 
 pub returns : goal.returns
 returns c =
-    let s = c in
-    let e : c.loop-j.j ≡ s.args.n = omega arith in
-    unity_put s.requires.0 s.requires.1 (over_window (rw e at c.loop-j.invariant.1))
+    let e : c.loop-j.j ≡ c.args.n = omega arith in
+    unity_put c.requires.0 c.requires.1 (over_window (rw e at c.loop-j.invariant))

@@ -1,11 +1,7 @@
 -- `word_divide::put_unity` meets its contract. The invariant: the places below j are zero.
 -- Assumes nothing.
-use Prim.Native.Nat.{◌-◌, ◌≤◌}
 use Rattle.spec_range.proofs.Loop.{Over}
 use Rattle.word_divide.proofs.put_unity.Given as goal
 
 abbrev pub invariant-loop-j : goal.invariant-loop-j
-invariant-loop-j l = (l.j ≤ l.n) × Over l.j (λ j. 0) l.initial.v l.v
-
-abbrev pub decreases-loop-j : goal.decreases-loop-j
-decreases-loop-j l = l.n - l.j
+invariant-loop-j l = Over l.j (λ j. 0) l.initial.v l.v

@@ -13,7 +13,7 @@ pub overflow_shl-x : goal.overflow_shl-x
 overflow_shl-x c = omega (arith, c.digits_below.ensures)
 
 pub loop-k-preserved : goal.loop-k-preserved
-loop-k-preserved c = (search rules, gathered_more 64 c.digits_below.ensures c.wide.ensures.0 c.wide.ensures.1 (omega arith) c.loop-k.invariant.1)
+loop-k-preserved c = (search rules, gathered_more 64 c.digits_below.ensures c.from.ensures (search rules) (omega arith) c.loop-k.invariant.1)
 
 pub returns : goal.returns
 returns c = let e : c.loop-k.k ≡ 8 = omega arith in let h = rw e at c.loop-k.invariant.1 in (h.is, h.narrow)

@@ -25,9 +25,9 @@ pub bounds-e-k : goal.bounds-e-k
 bounds-e-k c = room c.requires c.loop-k.invariant.1 c.loop-k-test.true
 
 pub loop-k-preserved : goal.loop-k-preserved
-loop-k-preserved c = let turn = c in (
+loop-k-preserved c = (
   search rules,
-  over_more _ (room turn.requires turn.loop-k.invariant.1 c.loop-k-test.true) (lane_masked 8 _ _ c.digits_below.ensures) turn.loop-k.invariant.1,
+  over_more _ (room c.requires c.loop-k.invariant.1 c.loop-k-test.true) (lane_masked 8 _ _ c.digits_below.ensures) c.loop-k.invariant.1,
 )
 
 pub shape_of-e : goal.shape_of-e

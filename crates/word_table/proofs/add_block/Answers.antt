@@ -12,10 +12,7 @@ use Rattle.word_table.proofs.add_block.Goals as goal
 
 pub returns : goal.returns
 returns c =
-    let read = c in
-    let start = read in
-    let from = start.args.from in
-    rw start.requires.1 at c.add_eights.ensures
+    rw c.requires.1 at c.add_eights.ensures
     ∙ table_same 64 (λ k l. ap₂ bit_xor
-    (read_table _ read.block-old.ensures l ∙ ap (place start.args.sum.now) (omega arith))
-    (part_at start.args.t.now from (from + 64) k (omega arith)))
+    (read_table _ c.block-old.ensures l ∙ ap (place c.args.sum.now) (omega arith))
+    (part_at c.args.t.now c.args.from (c.args.from + 64) k (omega arith)))

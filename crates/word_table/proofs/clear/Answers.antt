@@ -4,20 +4,14 @@ use mathlib.Core.Path.{◌≡◌, refl}
 use native.Mathlib.Omega.{arith}
 use Rattle.spec_range.proofs.Loop.{zero_at}
 use Rattle.word_table.proofs.Window.{window_none, window_join}
-use borrow.Author.Rules.{rules}
 use Rattle.word_table.proofs.clear.Goals as goal
 
 pub loop-b-init : goal.loop-b-init
-loop-b-init c = (search rules, window_none _ _ _)
+loop-b-init c = window_none _ _ _
 
 pub loop-b-preserved : goal.loop-b-preserved
 loop-b-preserved c =
-    let put = c in
-    let so_far = put.loop-b.invariant.1 in
-    (search rules, window_join (omega arith) (omega arith) (λ k l. refl) (λ k l. zero_at 64 k) so_far put.put_block.ensures)
-
-pub shape_of-t : goal.shape_of-t
-shape_of-t c = c.loop-b.invariant.1.long
+    window_join (omega arith) (omega arith) (λ k l. refl) (λ k l. zero_at 64 k) c.loop-b.invariant c.put_block.ensures
 
 pub returns : goal.returns
-returns c = let e : c.loop-b.b ≡ c.args.count = omega arith in rw e at c.loop-b.invariant.1
+returns c = let e : c.loop-b.b ≡ c.args.count = omega arith in rw e at c.loop-b.invariant

@@ -1,11 +1,8 @@
 -- `word_table::clear` meets its contract. The invariant: b blocks are cleared.
 -- Assumes nothing.
-use Prim.Native.Nat.{◌-◌, ◌*◌, ◌≤◌}
+use Prim.Native.Nat.{◌*◌}
 use Rattle.word_table.specs.Window.{Window}
 use Rattle.word_table.proofs.clear.Given as goal
 
 abbrev pub invariant-loop-b : goal.invariant-loop-b
-invariant-loop-b l = (l.b ≤ l.count) × Window 0 (64 * l.b) (λ j. 0) l.initial.t l.t
-
-abbrev pub decreases-loop-b : goal.decreases-loop-b
-decreases-loop-b l = l.count - l.b
+invariant-loop-b l = Window 0 (64 * l.b) (λ j. 0) l.initial.t l.t

@@ -1,12 +1,9 @@
 -- `word_table::copy_blocks` meets its contract. The invariant: b blocks are copied.
 -- Assumes nothing.
-use Prim.Native.Nat.{◌+◌, ◌-◌, ◌*◌, ◌≤◌}
+use Prim.Native.Nat.{◌+◌, ◌*◌}
 use Rattle.word_array.specs.Stored.{place}
 use Rattle.word_table.specs.Window.{Window}
 use Rattle.word_table.proofs.copy_blocks.Given as goal
 
 abbrev pub invariant-loop-b : goal.invariant-loop-b
-invariant-loop-b l = (l.b ≤ l.count) × Window l.to (64 * l.b) (λ j. place l.s (l.from + j)) l.initial.t l.t
-
-abbrev pub decreases-loop-b : goal.decreases-loop-b
-decreases-loop-b l = l.count - l.b
+invariant-loop-b l = Window l.to (64 * l.b) (λ j. place l.s (l.from + j)) l.initial.t l.t

@@ -1,7 +1,7 @@
 -- `word_table::lay` meets its contract.
 -- Assumes nothing.
 use mathlib.Core.Path.{◌≡◌, refl, ap, ◌∙◌}
-use Prim.Native.Nat.{ℕ, ◌+◌, ◌-◌, ◌*◌}
+use Prim.Native.Nat.{◌+◌, ◌-◌, ◌*◌}
 use native.Mathlib.Omega.{arith}
 use Rattle.sizes.proofs.Lengths.{blocks_low, blocks_fit}
 use Rattle.spec_range.specs.Table.{padded}
@@ -24,27 +24,16 @@ pub put_block-requires : goal.put_block-requires
 put_block-requires c = let low = blocks_low c.args.n in search rules
 
 pub copy_blocks-requires-2 : goal.copy_blocks-requires-2
-copy_blocks-requires-2 c =
-    let low = blocks_low c.args.n in
-    search rules
+copy_blocks-requires-2 c = let low = blocks_low c.args.n in search rules
 
 pub put_block-requires-2 : goal.put_block-requires-2
-put_block-requires-2 c =
-    let copy = c in
-    let low = blocks_low copy.args.n in
-    search rules
+put_block-requires-2 c = let low = blocks_low c.args.n in search rules
 
 pub returns : goal.returns
 returns c =
-    let copy₂ = c in
-    let put = copy₂ in
-    let copy = put in
-    let last = copy in
-    let s = last in
-    let e = last.blocks-count.ensures in
-    let low = blocks_low s.args.n in
-    let f : ℕ → ℕ = λ j. place s.args.s.now (s.args.from + j) in
-    let short : last.last_block-last.result ≡ padded 64 63 (λ k. f (64 * (last.blocks-count.result - 1) + k)) =
-    last.last_block-last.ensures ∙ padded_same 64 63 (λ k l. ap (place s.args.s.now) (omega arith)) in
-    laid (blocks_fit s.requires.1) (copied (omega (arith, low, e)) (search rules) refl short copy.copy_blocks.ensures put.put_block.ensures)
-    (copied (omega (arith, low, e)) (search rules) refl short copy₂.copy_blocks-2.ensures c.put_block-2.ensures)
+    let e = c.blocks-count.ensures in
+    let low = blocks_low c.args.n in
+    let short : c.last_block-last.result ≡ padded 64 63 (λ k. place c.args.s.now (c.args.from + (64 * (c.blocks-count.result - 1) + k))) =
+    c.last_block-last.ensures ∙ padded_same 64 63 (λ k l. ap (place c.args.s.now) (omega arith)) in
+    laid (blocks_fit c.requires.1) (copied (omega (arith, low, e)) (search rules) refl short c.copy_blocks.ensures c.put_block.ensures)
+    (copied (omega (arith, low, e)) (search rules) refl short c.copy_blocks-2.ensures c.put_block-2.ensures)

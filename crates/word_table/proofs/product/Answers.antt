@@ -4,32 +4,23 @@ use mathlib.Core.Path.{◌≡◌, refl, ◌∙◌}
 use native.Mathlib.Omega.{arith}
 use Rattle.sizes.proofs.Lengths.{blocks_high}
 use Rattle.word_table.proofs.Window.{window_none, window_join, read_table}
-use borrow.Author.Rules.{rules}
 use Rattle.word_table.proofs.product.Goals as goal
 
 pub loop-b-init : goal.loop-b-init
-loop-b-init c = (search rules, window_none _ _ _)
+loop-b-init c = window_none _ _ _
 
 pub product_block-sum-requires : goal.product_block-sum-requires
 product_block-sum-requires c =
-    let s = c in
     let e = c.blocks-blocks.ensures in
-    (rw e s.requires.0, omega arith, omega (arith, e, blocks_high s.args.n))
+    (rw e c.requires.0, omega arith, omega (arith, e, blocks_high c.args.n))
 
 pub loop-b-preserved : goal.loop-b-preserved
 loop-b-preserved c =
-    let product = c in
-    let now = product in (
-      search rules,
-      window_join (omega arith) (omega arith) (λ k l. refl) (λ k l. read_table _ product.product_block-sum.ensures l) now.loop-b.invariant.1
-          c.put_block.ensures,
-    )
-
-pub shape_of-out : goal.shape_of-out
-shape_of-out c = c.loop-b.invariant.1.long
+    window_join (omega arith) (omega arith) (λ k l. refl) (λ k l. read_table _ c.product_block-sum.ensures l) c.loop-b.invariant
+    c.put_block.ensures
 
 pub returns : goal.returns
 returns c =
     let e = c.blocks-blocks.ensures in
     let all : c.loop-b.b ≡ c.blocks-blocks.result = omega arith in
-    rw (all ∙ e, e) at c.loop-b.invariant.1
+    rw (all ∙ e, e) at c.loop-b.invariant

@@ -3,17 +3,13 @@
 use mathlib.Core.Path.{◌≡◌, refl}
 use native.Mathlib.Omega.{arith}
 use Rattle.word_table.proofs.Window.{window_none, window_more}
-use borrow.Author.Rules.{rules}
 use Rattle.word_table.proofs.put_block.Goals as goal
 
 pub loop-j-init : goal.loop-j-init
-loop-j-init c = (search rules, window_none _ _ _)
+loop-j-init c = window_none _ _ _
 
 pub loop-j-preserved : goal.loop-j-preserved
-loop-j-preserved c = (search rules, window_more _ (omega arith) refl c.loop-j.invariant.1)
-
-pub shape_of-t : goal.shape_of-t
-shape_of-t c = c.loop-j.invariant.1.long
+loop-j-preserved c = window_more _ (omega arith) refl c.loop-j.invariant
 
 pub returns : goal.returns
-returns c = let e : c.loop-j.j ≡ 64 = omega arith in rw e at c.loop-j.invariant.1
+returns c = let e : c.loop-j.j ≡ 64 = omega arith in rw e at c.loop-j.invariant

@@ -9,9 +9,8 @@ weights_ok-requires c = let h = c.requires in lying h.0 h.1
 
 pub returns-then-not-weights_ok : goal.returns-then-not-weights_ok
 returns-then-not-weights_ok c =
-    let s = c in
-    let h = s.requires in
-    weights_fail h.0 h.1 s.weights_ok.ensures (not_from_false _ c.if-not-weights_ok.true)
+    let h = c.requires in
+    weights_fail h.0 h.1 c.weights_ok.ensures (not_from_false _ c.if-not-weights_ok.true)
 
 pub products_vanish-requires : goal.products_vanish-requires
 products_vanish-requires c =
@@ -20,6 +19,5 @@ products_vanish-requires c =
 
 pub returns : goal.returns
 returns c =
-    let s = c in
-    let h = s.requires in
-    products_decide h.0 h.1 s.weights_ok.ensures (not_from_true _ c.if-not-weights_ok.false) c.products_vanish.ensures
+    let h = c.requires in
+    products_decide h.0 h.1 c.weights_ok.ensures (not_from_true _ c.if-not-weights_ok.false) c.products_vanish.ensures

@@ -19,8 +19,7 @@ pub loop-i-preserved : goal.loop-i-preserved
 loop-i-preserved c =
     let l = c.loop-i in
     let s = l.invariant in
-    let start = c in
-    let here = generator_at_lem start.args.book.now {j = l.i} (omega (arith, start.requires.1)) in
+    let here = generator_at_lem c.args.book.now {j = l.i} (omega (arith, c.requires.1)) in
     elim c.if-book-i-ne0.branch [
       | then-book-i-ne0 w ↦ (search rules, omega arith, w.d-is ∙ degree_nonzero _ _ _ s.2 s.1 (λ z. w.if-book-i-ne0.true (sym here ∙ z)))
       | else-book-i-ne0 w ↦ (search rules, omega arith, w.d-is ∙ degree_zero _ _ _ s.2 (here ∙ w.if-book-i-ne0.false))
@@ -28,7 +27,6 @@ loop-i-preserved c =
 
 pub returns : goal.returns
 returns c =
-    let start = c in
-    let e : c.loop-i.i ≡ start.args.n = omega arith in
+    let e : c.loop-i.i ≡ c.args.n = omega arith in
     let d = rw e at c.loop-i.invariant.2 in
-    (d, omega (arith, degree_lt start.args.n (book_of start.args.book.now).generator (omega arith)))
+    (d, omega (arith, degree_lt c.args.n (book_of c.args.book.now).generator (omega arith)))

@@ -13,9 +13,7 @@ use Rattle.book_alike.proofs.compare.pair_alike.Goals as goal
 
 pub returns : goal.returns
 returns c =
-    let start = c in
-    c.alike.ensures
-    ∙ ap₂ (alike (gf start.args.p) start.args.n) (body_word _ start.args.m c.dual_at.ensures start.args.n) start.requires.2.word
+    c.alike.ensures ∙ ap₂ (alike (gf c.args.p) c.args.n) (body_word _ c.args.m c.dual_at.ensures c.args.n) c.requires.2.word
 
 pub bounds-s-m : goal.bounds-s-m
 bounds-s-m c = let s = c.requires in omega (arith, s.0.most, s.1.long, s.3)
@@ -25,30 +23,26 @@ bounds-s-l c = let s = c.requires in omega (arith, s.0.most, s.1.long)
 
 pub returns-then-s-m : goal.returns-then-s-m
 returns-then-s-m c =
-    let start = c in
-    let s = start.requires in
-    unlike_told s.0 s.1 start.args.l start.args.m (omega arith) s.3 (ne_eqb _ _ c.if-s-m.true)
+    let s = c.requires in
+    unlike_told s.0 s.1 c.args.l c.args.m (omega arith) s.3 (ne_eqb _ _ c.if-s-m.true)
 
 pub dual_at-requires : goal.dual_at-requires
 dual_at-requires c = let s = c.requires in omega (arith, s.0.most, s.3)
 
 pub overflow_add-dual_at : goal.overflow_add-dual_at
 overflow_add-dual_at c =
-    let start = c in
-    let earlier = start.requires.3 in
-    search (rules, body_start _ start.args.m c.dual_at.ensures start.requires.0.tested.room (omega arith))
+    let earlier = c.requires.3 in
+    search (rules, body_start _ c.args.m c.dual_at.ensures c.requires.0.tested.room (omega arith))
 
 pub alike-requires : goal.alike-requires
 alike-requires c =
-    let start = c in
-    let h = start.requires.0.tested in
+    let h = c.requires.0.tested in
     let e = c.dual_at.ensures in
-    let m = start.args.m in
-    let earlier = start.requires.3 in
+    let earlier = c.requires.3 in
     record {
       sizes = h.sizes;
-      room = body_room _ m e start.args.n h.room h.spanned (omega arith);
-      symbol = body_symbol _ m e h (omega arith);
-      multiples = start.requires.2.multiples;
-      first = ap (λ (f : ℕ → ℕ). f 0) start.requires.2.word ∙ start.requires.0.first start.args.l (omega arith);
+      room = body_room _ c.args.m e c.args.n h.room h.spanned (omega arith);
+      symbol = body_symbol _ c.args.m e h (omega arith);
+      multiples = c.requires.2.multiples;
+      first = ap (λ (f : ℕ → ℕ). f 0) c.requires.2.word ∙ c.requires.0.first c.args.l (omega arith);
     }

@@ -8,26 +8,18 @@ use borrow.Author.Rules.{rules}
 use Rattle.book_duals.proofs.packed.double_block.Goals as goal
 
 pub loop-j-init : goal.loop-j-init
-loop-j-init c = (search rules, window_none _ _ _)
+loop-j-init c = window_none _ _ _
 
 pub overflow_add-t : goal.overflow_add-t
-overflow_add-t c = let s = c in search (rules, rest_fits s.args.p s.other_digits-others.ensures)
+overflow_add-t c = search (rules, rest_fits c.args.p c.other_digits-others.ensures)
 
 pub overflow_mul-t : goal.overflow_mul-t
-overflow_mul-t c = let s = c in search (rules, top_fits s.args.p s.low_digits-ones.ensures)
+overflow_mul-t c = search (rules, top_fits c.args.p c.low_digits-ones.ensures)
 
 pub loop-j-preserved : goal.loop-j-preserved
 loop-j-preserved c =
-    let s = c in
-    let l = c.loop-j in (
-      search rules,
-      window_more _ (omega arith)
-          (double_value s.args.p refl s.low_digits-ones.ensures s.other_digits-others.ensures)
-          l.invariant.1,
-    )
-
-pub shape_of-t : goal.shape_of-t
-shape_of-t c = c.loop-j.invariant.1.long
+    let x = double_value c.args.p refl c.low_digits-ones.ensures c.other_digits-others.ensures in
+    window_more _ (omega arith) x c.loop-j.invariant
 
 pub returns : goal.returns
-returns c = let e : c.loop-j.j ≡ 64 = omega arith in rw e at c.loop-j.invariant.1
+returns c = let e : c.loop-j.j ≡ 64 = omega arith in rw e at c.loop-j.invariant

@@ -1,44 +1,31 @@
 -- `book_duals::packed::double_row` meets its contract. The invariant: b blocks of row 2c are written; row c stands below them, as it was.
 -- Assumes nothing.
-use mathlib.Core.Path.{◌≡◌, refl, ap, ◌∙◌}
-use Prim.Native.Nat.{ℕ, ◌+◌, ◌*◌, ◌<◌}
+use mathlib.Core.Path.{refl, ap}
+use Prim.Native.Nat.{◌*◌}
 use native.Mathlib.Nat.{mul-le-mul_right}
 use native.Mathlib.Omega.{arith}
-use Rattle.word_array.specs.Stored.{place}
-use Rattle.word_table.specs.Multiples.{entry}
-use Rattle.word_table.proofs.Window.{window_none, window_join, read_table}
-use Rattle.word_table.proofs.Rows.{rows_apart, row_put}
+use Rattle.word_table.proofs.Window.{window_none, window_join}
+use Rattle.word_table.proofs.Rows.{row_put, block_as_before}
 use Rattle.book_duals.specs.Lanes.{double_all}
 use borrow.Author.Rules.{rules}
 use Rattle.book_duals.proofs.packed.double_row.Goals as goal
 
 pub overflow_mul-to-3 : goal.overflow_mul-to-3
-overflow_mul-to-3 c = let s = c in omega (arith, s.requires.4, mul-le-mul_right {m = 1} {n = 128 * s.args.blocks} (2 * s.args.c) (omega (arith, s.requires.3)))
+overflow_mul-to-3 c = omega (arith, c.requires.4, mul-le-mul_right {m = 1} {n = 128 * c.args.blocks} (2 * c.args.c) (omega (arith, c.requires.3)))
 
 pub loop-b-init : goal.loop-b-init
-loop-b-init c = (search rules, window_none _ _ _)
+loop-b-init c = window_none _ _ _
 
 pub block-row-requires : goal.block-row-requires
-block-row-requires c = search (rules, c.loop-b.invariant.1.long)
+block-row-requires c = search (rules, c.loop-b.invariant.long)
 
 pub double_block-requires : goal.double_block-requires
-double_block-requires c = search (rules, c.loop-b.invariant.1.long)
+double_block-requires c = search (rules, c.loop-b.invariant.long)
 
 pub loop-b-preserved : goal.loop-b-preserved
 loop-b-preserved c =
-    let block = c in
-    let now = block in (
-      search rules,
-      window_join refl (omega arith) (λ k l. refl) (λ k l. ap (double_all now.args.p) ((let fact : let now = block in let s = now.args in (k : ℕ) → k < 64 → place block.block-row.result k ≡ entry (128 * s.blocks) s.t.now s.c (64 * now.loop-b.b + k) = λ k l. let now = block in
-          let s = now in
-          let apart = rows_apart (128 * s.args.blocks) {b = s.args.c} {c = 2 * s.args.c} (omega (arith, s.requires.2)) in
-          read_table _ block.block-row.ensures l ∙ now.loop-b.invariant.1.low (2 * 64 * s.args.blocks * s.args.c + 64 * now.loop-b.b + k) (omega (arith, apart))
-          ∙ ap (place s.args.t.now) (omega arith) in fact) k l)) now.loop-b.invariant.1
-          c.double_block.ensures,
-    )
-
-pub shape_of-t : goal.shape_of-t
-shape_of-t c = c.loop-b.invariant.1.long
+    let read = block_as_before c.args.blocks c.args.c c.loop-b.b c.requires.2 c.loop-b-test.true c.loop-b.invariant c.block-row.ensures in
+    window_join refl (omega arith) (λ k l. refl) (λ k l. ap (double_all c.args.p) (read k l)) c.loop-b.invariant c.double_block.ensures
 
 pub returns : goal.returns
-returns c = row_put refl (omega arith) c.loop-b.invariant.1
+returns c = row_put refl (omega arith) c.loop-b.invariant

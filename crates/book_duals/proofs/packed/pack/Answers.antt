@@ -8,14 +8,14 @@ use borrow.Author.Rules.{rules}
 use Rattle.book_duals.proofs.packed.pack.Goals as goal
 
 pub loop-j-init : goal.loop-j-init
-loop-j-init c = (search rules, over_none _ _)
+loop-j-init c = over_none _ _
 
 pub loop-j-preserved : goal.loop-j-preserved
 loop-j-preserved c =
-    let s = c.loop-j in
-    (search rules, over_more _ (omega arith) (rw (s.invariant.1.rest _ (le_refl s.j))) s.invariant.1)
+    let so_far = c.loop-j.invariant in
+    over_more _ (omega arith) (rw (so_far.rest _ (le_refl c.loop-j.j))) so_far
 
 pub returns : goal.returns
 returns c =
     let e : c.loop-j.j ≡ 64 = omega arith in
-    over_table _ _ _ _ (search rules) (rw e at c.loop-j.invariant.1)
+    over_table _ _ _ _ (search rules) (rw e at c.loop-j.invariant)

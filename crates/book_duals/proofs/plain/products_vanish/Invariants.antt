@@ -1,7 +1,6 @@
 -- `book_duals::plain::products_vanish` meets its contract. The invariant: the products of the dual words below l are joined.
 -- Assumes nothing.
 use mathlib.Core.Path.{◌≡◌}
-use Prim.Native.Nat.{◌-◌, ◌≤◌}
 use lib.ListN.{length}
 use Rattle.book_duals.specs.Duals.{dual_product}
 use Rattle.book_duals.proofs.Joined.{Joined}
@@ -9,7 +8,4 @@ use Rattle.book_duals.proofs.plain.products_vanish.Given as goal
 
 abbrev pub invariant-loop-l : goal.invariant-loop-l
 invariant-loop-l l =
-    (l.l ≤ l.duals) × (length l.left ≡ 256) × (length l.product ≡ 256) × Joined l.n (dual_product l.p l.n l.book) l.l l.left
-
-abbrev pub decreases-loop-l : goal.decreases-loop-l
-decreases-loop-l l = l.duals - l.l
+    (length l.left ≡ 256) × (length l.product ≡ 256) × Joined l.n (dual_product l.p l.n l.book) l.l l.left

@@ -29,12 +29,11 @@ decode_one-x-requires c =
 
 pub loop-m-preserved : goal.loop-m-preserved
 loop-m-preserved c =
-    let called = c in
-    let part = called.decode_one-arg-in-loop-m-1.given.1 in
-    let turn = called.loop-m in
-    let h = called.requires in
-    one_more _ _ _ _ _ _ (omega arith) called.loop-m-test.true h.3.high turn.invariant called.decode_one-x.ensures.1
-    called.decode_one-x.ensures.0 c.terms-1.given (omega (arith, c.answers-1.given.0, part))
+    let part = c.decode_one-arg-in-loop-m-1.given.1 in
+    let turn = c.loop-m in
+    let h = c.requires in
+    one_more _ _ _ _ _ _ (omega arith) c.loop-m-test.true h.3.high turn.invariant c.decode_one-x.ensures.1
+    c.decode_one-x.ensures.0 c.terms-1.given (omega (arith, c.answers-1.given.0, part))
     c.answers-1.given.1 c.entries-1.given
 
 pub shape_of-terms : goal.shape_of-terms

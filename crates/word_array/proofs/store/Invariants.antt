@@ -1,9 +1,0 @@
--- `word_array::store` meets its contract. The invariant: the places below j are the word's.
--- Assumes nothing.
-use Prim.Native.Nat.{◌-◌, ◌≤◌}
-use Rattle.spec_range.proofs.Loop.{Over}
-use Rattle.word_array.specs.Stored.{place}
-use Rattle.word_array.proofs.store.Given as goal
-
-abbrev pub invariant-loop-j : goal.invariant-loop-j
-invariant-loop-j l = (l.j ≤ l.n) × Over l.j (place l.w) l.initial.out l.out
