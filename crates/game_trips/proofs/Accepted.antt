@@ -9,8 +9,10 @@ use lib.Arith.{digits_lt}
 use lib.Dec.{T, eqb, eqb→eq}
 use lib.ListN.{length, get_or, take, drop}
 use Rattle.spec_range.proofs.Tests.{eq→eqb}
-use Rattle.spec_field.specs.Answer.{Answer, or_else}
-use Rattle.spec_field.proofs.Refusals.{found_first}
+use Rattle.std.specs.Prelude.{Result, IsOk}
+use Rattle.spec_field.specs.Answer.{or_else}
+use Rattle.refusal.specs.declared.Refusal.{Refusal}
+use Rattle.refusal.specs.Number.{said}
 use Rattle.spec_word.specs.Mixed.{mixed, part}
 use Rattle.spec_word.proofs.Mixed.{part_length, part_at, part_taken}
 use Rattle.spec_book.specs.Book.{message_length}
@@ -23,12 +25,13 @@ use Rattle.spec_operations.specs.Wrote.{Wrote}
 use Rattle.spec_operations.specs.Coding.{code_input_refusal, code_refusal, coded}
 use Rattle.spec_operations.specs.Burst.{burst_size}
 use Rattle.spec_operations.specs.Game.{game_size}
-use Rattle.spec_operations.specs.GameTrips.{send_input_refusal, send_refusal, sent}
-use Rattle.spec_operations.proofs.Wrote.{goes_on, wrote_new}
+use Rattle.spec_operations.specs.GameTrips.{send_input_refusal, sent}
+use Rattle.spec_operations.proofs.Wrote.{wrote_new, wrote_done}
 use Rattle.book.specs.Params.{Describes}
 use Rattle.book.specs.declared.Params.{Params}
 use Rattle.book.proofs.Described.{params_sizes}
 use Rattle.burst.proofs.Working.{part_within}
+use Rattle.game.proofs.Reading.{is_done}
 
 -- the number, by the parameters that were read off the book
 pub send_number : (bytes : List ℕ) (c : Params) → Describes bytes c → (words : ℕ) (f : List ℕ) (room : ℕ) {number q : ℕ} → q ≡ 2 ^ c.p
@@ -36,21 +39,6 @@ pub send_number : (bytes : List ℕ) (c : Params) → Describes bytes c → (wor
     → number ≡ send_input_refusal bytes words f room
 unfolding send_input_refusal
 send_number bytes c d words f room hq h = h ∙ rw (hq, d.p_is, d.n_is, d.degree_is)
-
--- a word lies in room for any
-pub word_fits : (bytes : List ℕ) (c : Params) → Describes bytes c → {room : ℕ} → 255 ≡ room → c.n ≤ room
-word_fits bytes c d h = omega (arith, (params_sizes bytes c d).n_high, h)
-
--- a whole call, where n was found for the book
-module _ (bytes : List ℕ) (words : ℕ) (f : List ℕ) (room : ℕ) {n : ℕ} (e : n ≡ refusal bytes) where
-  pub send_refused : (n ≡ 0 → ⊥) → n ≡ send_refusal bytes words f room
-  unfolding send_refusal
-  send_refused h = found_first n (refusal bytes) _ e h
-
-  pub send_goes_on : n ≡ 0 → {new old out : List ℕ} {a : Answer} → Wrote (send_input_refusal bytes words f room) new old a out
-      → Wrote (send_refusal bytes words f room) new old a out
-  unfolding send_refusal
-  send_goes_on z h = goes_on e z h
 
 -- ---- messages that are not refused
 
@@ -116,20 +104,28 @@ module _ (bytes : List ℕ) (c : Params) (d : Describes bytes c) (words : ℕ) (
   pub room_long : room ≡ c.n * words
   room_long = h.room_size ∙ ap (λ (i : ℕ). i * words) (sym d.n_is)
 
-  -- what a call of code makes of message m
-  pub word_coded : {m : ℕ} → m < words → (word₀ : List ℕ) {word : List ℕ} {a : Answer} → length word₀ ≡ c.n
-      → Wrote (code_refusal bytes (take (m * k + k - m * k) (drop (m * k) f)) (length word₀)) (coded bytes (take (m * k + k - m * k) (drop (m * k) f))) word₀ a word
-      → word ≡ coded bytes (part k f m)
-  word_coded {m} l word₀ {word} {a} e w =
-      wrote_new taken (subst (λ (x : List ℕ). Wrote (code_refusal bytes x (length word₀)) (coded bytes x) word₀ a word) message w)
-    where
-      message : take (m * k + k - m * k) (drop (m * k) f) ≡ part k f m
-      message =
-          let all : m * k + k - m * k ≡ k = omega arith in
-          ap (λ (i : ℕ). take i (drop (m * k) f)) all ∙ part_taken k f m (part_within m k l messages_long)
+  -- message m, as it is passed to code
+  abbrev passed_on : ℕ → List ℕ
+  passed_on m = take (m * k + k - m * k) (drop (m * k) f)
 
-      taken : code_refusal bytes (part k f m) (length word₀) ≡ 0
-      taken = ap₂ (λ (i n : ℕ). code_refusal bytes (part i f m) n) k_is (e ∙ d.n_is) ∙ part-accepted bytes words f room d.accepted h l
+  -- a call of code on it
+  module _ {m : ℕ} (l : m < words) (word₀ : List ℕ) (e : length word₀ ≡ c.n) {word : List ℕ} {A : Type 0} (r : Result A Refusal)
+      (w : Wrote (code_refusal bytes (passed_on m) (length word₀)) (coded bytes (passed_on m)) word₀ (said r) word) where
+    message_is : passed_on m ≡ part k f m
+    message_is =
+        let all : m * k + k - m * k ≡ k = omega arith in
+        ap (λ (i : ℕ). take i (drop (m * k) f)) all ∙ part_taken k f m (part_within m k l messages_long)
+
+    taken : code_refusal bytes (passed_on m) (length word₀) ≡ 0
+    taken =
+        ap₂ (code_refusal bytes) (message_is ∙ ap (λ (i : ℕ). part i f m) k_is) (e ∙ d.n_is)
+        ∙ part-accepted bytes words f room d.accepted h l
+
+    pub code_done : IsOk r
+    code_done = is_done r (wrote_done taken w)
+
+    pub word_coded : word ≡ coded bytes (part k f m)
+    word_coded = wrote_new taken w ∙ ap (coded bytes) message_is
 
   pub all-sent : mixed c.n words (λ m. coded bytes (part k f m)) ≡ sent bytes words f
   all-sent = ap₂ (λ (n i : ℕ). mixed n words (λ m. coded bytes (part i f m))) d.n_is k_is

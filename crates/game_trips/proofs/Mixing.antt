@@ -57,28 +57,25 @@ module _ {words m : ℕ} where
 
 -- ---- all words
 
-module _ (n words : ℕ) (word : ℕ → List ℕ) (out₀ : List ℕ) where
+module _ (n words : ℕ) (word : ℕ → List ℕ) where
   -- the first m words stand in their places
   pub record SoFar (m : ℕ) (out : List ℕ) : Type 0 where
-    pub most : m ≤ words
-    pub long : length out ≡ length out₀
     pub at : (i j : ℕ) → i < m → j < n → place out (j * words + i) ≡ place (word i) j
 
-  pub none_yet : SoFar 0 out₀
-  none_yet = record { most = omega arith; long = refl; at = λ i j l. absurd (not-suc-le-zero l) }
+  pub none_yet : {out : List ℕ} → SoFar 0 out
+  none_yet = record { at = λ i j l. absurd (not-suc-le-zero l) }
 
-  pub one_more : {m : ℕ} {w out out' : List ℕ} → m < words → SoFar m out → w ≡ word m → Put n words m w out out' → SoFar (m + 1) out'
-  one_more {m} {w} {out} {out'} h s e p =
-      record { most = omega arith; long = p.long ∙ s.long; at = λ i j b l. go i j (below_more b) l }
+  pub one_more : {m : ℕ} {w out out' : List ℕ} → SoFar m out → w ≡ word m → Put n words m w out out' → SoFar (m + 1) out'
+  one_more {m} {out' = out'} s e p = record { at = λ i j b l. go i j (below_more b) l }
     where
       go : (i j : ℕ) → (i ≡ m) ⊎ (i < m) → j < n → place out' (j * words + i) ≡ place (word i) j
       go i j (inl q) l = rw q (p.at j l ∙ ap (λ (x : List ℕ). place x j) e)
       go i j (inr b) l = p.before_it i j b ∙ s.at i j b l
 
-  pub all-mixed : {m : ℕ} {out : List ℕ} → SoFar m out → words ≤ m → length out₀ ≡ n * words → out ≡ mixed n words word
+  pub all-mixed : {m : ℕ} {out : List ℕ} → SoFar m out → words ≤ m → length out ≡ n * words → out ≡ mixed n words word
   unfolding mixed
   all-mixed {m} {out} s h e =
-      sym (mixed-unmixed n words out (s.long ∙ e))
+      sym (mixed-unmixed n words out e)
       ∙ table_same (n * words) (λ k l.
       let positive = some words l in
       let row : k / words < n = (div-lt_iff_lt-mul positive).1 l in

@@ -16,8 +16,7 @@ use Rattle.spec_operations.specs.Game.{game_size, game_values, game_refusal, gam
 use Rattle.spec_operations.specs.GameTrips.{held_records, GameOfBurst}
 use Rattle.spec_operations.proofs.Burst.{taken_burst}
 use Rattle.spec_operations.proofs.Game.{TakenGame, game_taken, held_records_lem, game-answer}
-use Rattle.burst.specs.Said.{made_bytes, Answered}
-use Rattle.burst.specs.declared.Burst.{Burst}
+use Rattle.burst.specs.Said.{Outcome, made_bytes, Answered}
 
 -- a game is taken where the burst is
 game_beside : (bytes : List ℕ) (words : ℕ) (r : List ℕ) (answers list entries : ℕ) {messages : ℕ} → burst_refusal bytes words r answers list entries ≡ 0
@@ -28,7 +27,7 @@ game_beside bytes words r answers list entries z e =
     let h = taken_burst bytes words r answers list entries both.1 in
     (both.0, record { count = h.count; size = h.size; messages_size = e; symbol = h.symbol })
 
-pub game_of_burst : (bytes : List ℕ) (words : ℕ) (r answers₀ entries₀ messages₀ : List ℕ) (list : ℕ) {answers entries messages : List ℕ} {b : Burst} {a : Answer}
+pub game_of_burst : (bytes : List ℕ) (words : ℕ) (r answers₀ entries₀ messages₀ : List ℕ) (list : ℕ) {answers entries messages : List ℕ} {b : Outcome} {a : Answer}
     → Answered (burst_refusal bytes words r (length answers₀) list (length entries₀)) words (burst_word bytes words r) answers₀ entries₀ b answers entries
     → Games bytes (game_refusal bytes words r (length messages₀)) words r messages₀ a messages
     → burst_refusal bytes words r (length answers₀) list (length entries₀) ≡ 0 → length messages₀ ≡ game_size bytes words

@@ -29,7 +29,7 @@ fn code_all(book: &[u8], c: Params, words: usize, messages: &[u8], word: &mut [u
     let k = n - c.degree;
     for m in 0..words {
         let from = m * k;
-        coder::code(book, &messages[from..from + k], word);
+        coder::code(book, &messages[from..from + k], word).unwrap();
         mix(word, n, words, m, out);
     }
 }

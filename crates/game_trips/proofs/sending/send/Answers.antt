@@ -1,25 +1,22 @@
 -- `game_trips::sending::send` meets its contract.
 -- Assumes nothing.
 use mathlib.Core.Path.{refl}
-use native.Mathlib.Omega.{arith}
-use Rattle.spec_operations.proofs.Wrote.{wrote_refused}
-use Rattle.book.proofs.Answering.{opens_open, opens_refused}
+use Rattle.spec_operations.specs.GameTrips.{send_refusal}
+use Rattle.spec_operations.proofs.Wrote.{goes_on}
 use Rattle.book.proofs.Rooms.{any_room}
-use Rattle.game_trips.proofs.Accepted.{send_refused, send_goes_on}
+use Rattle.coder.proofs.Opening.{not_opened}
 use Rattle.game_trips.proofs.sending.send.Goals as goal
 
-pub open-opened-requires : goal.open-opened-requires
-open-opened-requires c = any_room _ c.table_room-t.ensures
+pub open-requires : goal.open-requires
+open-requires c = any_room _ refl
+
+pub returns-in_err-c : goal.returns-in_err-c
+unfolding send_refusal
+returns-in_err-c c = not_opened _ _ c.from_residual.ensures.1 _ _ c.in_err-c.ensures.0.0
 
 pub send_words-requires : goal.send_words-requires
-send_words-requires c = (opens_open _ _ _ c.open-opened.ensures.0 c.in-Open.is).0
+send_words-requires c = c.in_ok-c.ensures.0.0
 
-pub returns-in-Refused : goal.returns-in-Refused
-returns-in-Refused c =
-    let h = opens_refused _ _ _ c.open-opened.ensures.0 c.in-Refused.is in
-    wrote_refused (send_refused _ _ _ _ h.0 (λ z. omega (arith, h.1))) (λ z. omega (arith, h.1))
-
-pub returns-in-Open : goal.returns-in-Open
-returns-in-Open c =
-    let h = opens_open _ _ _ c.open-opened.ensures.0 c.in-Open.is in
-    send_goes_on _ _ _ _ refl h.0.accepted c.send_words.ensures
+pub returns : goal.returns
+unfolding send_refusal
+returns c = goes_on refl c.in_ok-c.ensures.0.0.accepted c.send_words.ensures
