@@ -1,7 +1,7 @@
 -- The conditions 7 and 8 of readable bytes: the dual words that are tested are those of the book, and the tests are the book's.
 -- Assumes nothing.
 use mathlib.Core.Path.{◌≡◌, refl, sym, ap, ◌∙◌, subst}
-use mathlib.Core.Bool.{Bool, true, false, not, ◌&&◌}
+use mathlib.Core.Bool.{Bool, true, false, ◌&&◌}
 use mathlib.Core.List.{List}
 use Prim.Native.Nat.{ℕ, ◌≤◌, ◌<◌}
 use native.Mathlib.Nat.{mod-eq_of_lt, le_of_eq}
@@ -25,7 +25,6 @@ use Rattle.book_duals.specs.Duals as duals
 use Rattle.book_duals.specs.Duals.{generator_word, dual_word, weight_ok, product_ok, Lying, Table}
 use Rattle.book_alike.specs.Compared.{differ, Comparable}
 use Rattle.book.specs.Params.{Read, Tabulated}
-use Rattle.book_records.proofs.Tested.{failed, passed}
 use Rattle.book.proofs.Reading.{generator_at_lem, generator_body, dual_body, dual_kind, read_sizes, read_spanned}
 
 -- the parts of a test change places
@@ -84,13 +83,13 @@ module _ {bytes : List ℕ} {p n : ℕ} (h : Read bytes p n) {count : ℕ} (e : 
       ∙ ap (λ (m : ℕ). all m (dual_ok (field_of bytes) (book_of bytes))) e
 
   -- the first test fails
-  pub weights_fail : {r : Bool} → r ≡ all count (weight_ok n bytes) → not r ≡ true → false ≡ duals_ok (field_of bytes) (book_of bytes)
-  weights_fail s f = ap (λ (t : Bool). t && all count (product_ok p n bytes)) (sym (failed s f)) ∙ duals-test
+  pub weights_fail : false ≡ all count (weight_ok n bytes) → false ≡ duals_ok (field_of bytes) (book_of bytes)
+  weights_fail f = ap (λ (t : Bool). t && all count (product_ok p n bytes)) f ∙ duals-test
 
   -- or the second decides
-  pub products_decide : {r v : Bool} → r ≡ all count (weight_ok n bytes) → not r ≡ false → v ≡ all count (product_ok p n bytes)
+  pub products_decide : {v : Bool} → true ≡ all count (weight_ok n bytes) → v ≡ all count (product_ok p n bytes)
       → v ≡ duals_ok (field_of bytes) (book_of bytes)
-  products_decide s f d = d ∙ ap (λ (t : Bool). t && all count (product_ok p n bytes)) (sym (passed s f)) ∙ duals-test
+  products_decide s d = d ∙ ap (λ (t : Bool). t && all count (product_ok p n bytes)) s ∙ duals-test
 
   -- what condition 8 is asked of, where 7 was passed
   pub comparable : duals_ok (field_of bytes) (book_of bytes) ≡ true → Comparable bytes p n count

@@ -82,14 +82,6 @@ module _ (bytes : List ℕ) {size : ℕ} where
       go false b = omega arith
 
 -- the largest s and p of a form
-pub exponent_le : (b : Bool) → cond b 8 6 ≤ 8
-exponent_le true = omega arith
-exponent_le false = omega arith
-
-pub digits_le : (b : Bool) → cond b 4 6 ≤ 6
-digits_le true = omega arith
-digits_le false = omega arith
-
 pub exponent_most : (bytes : List ℕ) → T (sizes_ok bytes) → size_exponent bytes ≤ cond (is_long bytes) 8 6
 unfolding sizes_ok
 exponent_most bytes t = leb→le (size_exponent bytes) (cond (is_long bytes) 8 6) (search (and_left, and_right) depth 9)

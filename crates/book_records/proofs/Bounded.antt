@@ -37,11 +37,11 @@ bounds_end q {n} {j} {out} pos h l o =
             o.rest k (omega arith) ∙ get_or-replicate 256 k 1 0 b ∙ rw (ne_eqb k 0 (λ e. omega arith), lt-leb k n (omega arith)) refl
 
 -- the bounds of bytes whose s and p are right
-pub bounded : {bytes bounds : List ℕ} {q n blocks : ℕ} → T (sizes_ok bytes) → q ≡ 2 ^ symbol_digits bytes → n ≡ word_length bytes
-    → bounds ≡ table 256 (bound q n) → blocks ≡ (1 + width bytes) / 64 → Bounds bytes blocks bounds
-bounded {bytes} {blocks = blocks} t e f h b = record { digits = (sizes bytes t).p_low; spanned = go (form bytes); bound_at = rw (e, f) at h }
+pub bounded : {bytes bounds : List ℕ} {q n size : ℕ} → T (sizes_ok bytes) → q ≡ 2 ^ symbol_digits bytes → n ≡ word_length bytes
+    → bounds ≡ table 256 (bound q n) → size ≡ 1 + width bytes → Bounds bytes (size / 64) bounds
+bounded {bytes} {size = size} t e f h b = record { digits = (sizes bytes t).p_low; spanned = go (form bytes); bound_at = rw (e, f) at h }
   where
-    go : Form bytes → 64 * blocks ≡ 1 + width bytes
+    go : Form bytes → 64 * (size / 64) ≡ 1 + width bytes
     go (short f w) = omega (arith, w)
     go (long f w) = omega (arith, w)
 

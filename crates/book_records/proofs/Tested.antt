@@ -1,34 +1,23 @@
 -- What the tests of the bytes tell.
 -- Assumes nothing.
-use mathlib.Core.Path.{◌≡◌, refl, sym, ◌∙◌, subst}
-use mathlib.Core.Bool.{Bool, true, false, not, cond, ◌&&◌}
+use mathlib.Core.Path.{◌≡◌, refl, sym, subst}
+use mathlib.Core.Bool.{Bool, true, false, cond, ◌&&◌}
 use mathlib.Core.List.{List}
 use Prim.Native.Nat.{ℕ, ◌+◌, ◌-◌, ◌%◌, ◌≤◌, ◌<◌}
 use native.Mathlib.Nat.{zero-div}
 use native.Mathlib.Omega.{arith}
-use borrow.Author.Tests.{not-true, not-false}
 use lib.Dec.{T, eqb, leb, leb→le, eqb→eq}
 use lib.ListN.{length}
 use Rattle.spec_range.specs.Fold.{all}
-use Rattle.spec_range.proofs.Tests.{and_left, and_right, true_test, test_true, eq→eqb}
+use Rattle.spec_range.proofs.Tests.{and_left, and_right, test_true, eq→eqb}
 use Rattle.spec_range.proofs.Table.{all-at}
 use Rattle.spec_field.specs.Answer.{or_else}
-use Rattle.spec_book.specs.Layout.{generator_at, limits_at, dual_at, byte, is_long, width, duals_in, size_exponent, field_of, book_of, Whole}
+use Rattle.spec_book.specs.Layout.{generator_at, limits_at, dual_at, byte, is_long, width, duals_in, field_of, book_of, Whole}
 use Rattle.spec_book.specs.Conditions.{length_fits, length_ok, kinds_ok, sizes_ok, symbols_ok, unless, book_refusal, refusal}
 use Rattle.spec_book.proofs.Sound as book
 use Rattle.spec_book.proofs.Sound.{sound}
-use Rattle.spec_book.proofs.Accepting.{dual_apart, chosen_length, own_length, whole, sizes}
+use Rattle.spec_book.proofs.Accepting.{dual_apart, chosen_length, own_length, whole}
 use Rattle.book_records.specs.Records.{records_refusal, Readable, Body}
-
--- a test was made, and failed or did not
-pub failed : {r t : Bool} → r ≡ t → not r ≡ true → t ≡ false
-failed e h = sym e ∙ not-true _ h
-
-pub passed : {r t : Bool} → r ≡ t → not r ≡ false → t ≡ true
-passed e h = sym e ∙ not-false _ h
-
-pub held : {r t : Bool} → r ≡ t → not r ≡ false → T t
-held e h = true_test _ (passed e h)
 
 -- ---- condition 1
 
@@ -98,9 +87,6 @@ pub sizes_tested : (bytes : List ℕ) {low high : ℕ} {long : Bool} → long �
     → sizes_ok bytes ≡ (leb low (byte bytes 1) && leb (byte bytes 1) high && leb 1 (byte bytes 2) && leb (byte bytes 2) 6 && eqb (byte bytes 1 % byte bytes 2) 0)
 unfolding sizes_ok
 sizes_tested bytes e f g = rw (f, g, e) refl
-
-pub exponent_high : (bytes : List ℕ) → T (sizes_ok bytes) → size_exponent bytes ≤ 8
-exponent_high bytes t = (sizes bytes t).s_high
 
 -- ---- all
 

@@ -5,7 +5,7 @@ ghost use Rattle.spec_operations.specs.Coding.{code_refusal, coded};
 ghost use Rattle.spec_operations.specs.Short.{GivenWrittenOut, SameWord};
 ghost use Rattle.refusal.specs.Number.{said};
 
-use crate::trips::Both;
+use refusal::Refusal;
 
 // Both calls answer and write what the definition says, whatever is given; and where the second message is the first written out, they answer and write
 // the same.
@@ -15,18 +15,15 @@ pub fn code_twice(
     whole: &[u8],
     first: &mut [u8],
     second: &mut [u8],
-) -> Both
+) -> (Result<(), Refusal>, Result<(), Refusal>)
     ensures wrote_first { Wrote (code_refusal book.now message.now (length first.old))
-        (coded book.now message.now) first.old (said result.first) first.new }
+        (coded book.now message.now) first.old (said result.0) first.new }
     ensures wrote_second { Wrote (code_refusal book.now whole.now (length second.old))
-        (coded book.now whole.now) second.old (said result.second) second.new }
+        (coded book.now whole.now) second.old (said result.1) second.new }
     ensures same_word { GivenWrittenOut book.now message.now whole.now (length first.old) (length second.old)
-        → SameWord (said result.first) (said result.second) first.new second.new }
+        → SameWord (said result.0) (said result.1) first.new second.new }
 {
     let a = coder::code(book, message, first);
     let b = coder::code(book, whole, second);
-    Both {
-        first: a,
-        second: b,
-    }
+    (a, b)
 }

@@ -44,7 +44,7 @@ abbrev pub part : List ℕ → ℕ → ℕ → List ℕ
 part m s n = take (s + n - s) (drop s m)
 
 module _ (m : List ℕ) (s n : ℕ) where
-  pub part_length : s + n ≤ length m → length (part m s n) ≡ n
+  part_length : s + n ≤ length m → length (part m s n) ≡ n
   part_length h = simp (length-take, length-drop) (omega arith)
 
   part_at : (j : ℕ) → j < n → place (part m s n) j ≡ place m (s + j)

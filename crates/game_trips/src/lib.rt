@@ -16,13 +16,6 @@ use refusal::Refusal;
 
 pub mod sending; // sending.rt: messages coded into a burst
 
-// What sending and the game answer.
-#[derive(Clone, Copy)]
-pub struct Both {
-    pub first: Result<(), Refusal>,
-    pub second: Result<Game, Refusal>,
-}
-
 // Both calls answer and write what the definitions say, whatever is given; and messages that are accepted come back from the burst that they were coded into,
 // by a game that is Whole.
 pub fn send_then_game(
@@ -31,25 +24,18 @@ pub fn send_then_game(
     messages: &[u8],
     out: &mut [u8],
     back: &mut [u8],
-) -> Both
+) -> (Result<(), Refusal>, Result<Game, Refusal>)
     ensures wrote { Wrote (send_refusal book.now words messages.now (length out.old))
-        (sent book.now words messages.now) out.old (said result.first) out.new }
+        (sent book.now words messages.now) out.old (said result.0) out.new }
     ensures games { Games book.now (game_refusal book.now words out.new (length back.old)) words
-        out.new back.old (games.said result.second) back.new }
+        out.new back.old (games.said result.1) back.new }
     ensures back_whole { send_refusal book.now words messages.now (length out.old) ≡ 0
         → length back.old ≡ game_size book.now words
-        → BackWhole (said result.first) (games.said result.second) messages.now back.new }
+        → BackWhole (said result.0) (games.said result.1) messages.now back.new }
 {
     let first = sending::send(book, words, messages, out);
     let second = game::take(book, words, out, back);
-    Both { first, second }
-}
-
-// What a burst and the game of the same words answer.
-#[derive(Clone, Copy)]
-pub struct Beside {
-    pub first: Result<Burst, Refusal>,
-    pub second: Result<Game, Refusal>,
+    (first, second)
 }
 
 // Both calls answer and write what the definitions say, whatever is given; and of a burst that is taken, the game is Held exactly where one of the burst's
@@ -62,18 +48,18 @@ pub fn burst_then_game(
     list: usize,
     entries: &mut [u16],
     messages: &mut [u8],
-) -> Beside
+) -> (Result<Burst, Refusal>, Result<Game, Refusal>)
     ensures answered { Answered (burst_refusal book.now words received.now (length answers.old) list (length entries.old))
-        words (burst_word book.now words received.now) answers.old entries.old result.first answers.new
+        words (burst_word book.now words received.now) answers.old entries.old result.0 answers.new
         entries.new }
     ensures games { Games book.now (game_refusal book.now words received.now (length messages.old)) words
-        received.now messages.old (games.said result.second) messages.new }
+        received.now messages.old (games.said result.1) messages.new }
     ensures game_of_burst { burst_refusal book.now words received.now (length answers.old) list (length entries.old) ≡ 0
         → length messages.old ≡ game_size book.now words
-        → GameOfBurst book.now words answers.new (made_bytes result.first) messages.old (games.said result.second)
+        → GameOfBurst book.now words answers.new (made_bytes result.0) messages.old (games.said result.1)
         messages.new }
 {
     let first = burst::decode_burst(book, words, received, answers, list, entries);
     let second = game::take(book, words, received, messages);
-    Beside { first, second }
+    (first, second)
 }

@@ -16,13 +16,6 @@ ghost use Rattle.spec_operations.specs.Twice.{Given};
 ghost use Rattle.spec_operations.specs.Short.{GivenWrittenOut};
 ghost use Rattle.spec_operations.specs.OverC.{GivenBackOverC, RelatedOverC, SortedOverC, SameWordOverC, BackWholeOverC};
 
-// What the two calls return.
-#[derive(Clone, Copy)]
-pub struct Two {
-    pub first: u32,
-    pub second: u32,
-}
-
 // Demand 3. Both calls return and write what decode's definition says, whatever is given. For all t, c and v together: where the second word is the first
 // turned by t, times the nonzero symbol c, plus the code word v, the book is accepted and the answers have the exact size, neither call is refused, the two
 // numbers are equal, and the second answer word is the first one moved in the same way.
@@ -32,52 +25,52 @@ pub fn decode_twice(
     answer: &mut [u8],
     received2: &[u8],
     answer2: &mut [u8],
-) -> Two
+) -> (u32, u32)
     ensures returns_first { Returns (decode_refusal book.now received.now (length answer.old) (matrix_size book.now))
         (values (decode_bytes book.now received.now)) (decode_bytes book.now received.now).answer
-        answer.old result.first answer.new }
+        answer.old result.0 answer.new }
     ensures returns_second { Returns (decode_refusal book.now received2.now (length answer2.old) (matrix_size book.now))
         (values (decode_bytes book.now received2.now)) (decode_bytes book.now received2.now).answer
-        answer2.old result.second answer2.new }
+        answer2.old result.1 answer2.new }
     ensures moved { (t c : ℕ) (v : List ℕ)
         → Given book.now t c v received.now received2.now (length answer.old) (matrix_size book.now)
         (length answer2.old) (matrix_size book.now)
-        → RelatedOverC book.now t c v result.first result.second answer.new answer2.new }
+        → RelatedOverC book.now t c v result.0 result.1 answer.new answer2.new }
 {
     let first = shiftsum::shiftsum_decode(book, received, answer);
     let second = shiftsum::shiftsum_decode(book, received2, answer2);
-    Two { first, second }
+    (first, second)
 }
 
 // Both calls return and write what the definitions say, whatever is given; and a message that is accepted is read back, written out, from the word that it was
 // coded into.
-pub fn code_then_read(book: &[u8], message: &[u8], word: &mut [u8], back: &mut [u8]) -> Two
+pub fn code_then_read(book: &[u8], message: &[u8], word: &mut [u8], back: &mut [u8]) -> (u32, u32)
     ensures returns_there { Returns (code_refusal book.now message.now (length word.old))
-        [] (coded book.now message.now) word.old result.first word.new }
+        [] (coded book.now message.now) word.old result.0 word.new }
     ensures returns_back { Returns (read_refusal book.now word.new (length back.old))
-        [] (message_of book.now word.new) back.old result.second back.new }
+        [] (message_of book.now word.new) back.old result.1 back.new }
     ensures given_back { code_refusal book.now message.now (length word.old) ≡ 0
         → length back.old ≡ message_length (book_of book.now)
-        → GivenBackOverC result.first result.second (written_out (book_of book.now) message.now) back.new }
+        → GivenBackOverC result.0 result.1 (written_out (book_of book.now) message.now) back.new }
 {
     let first = shiftsum::shiftsum_code(book, message, word);
     let second = shiftsum::shiftsum_read(book, word, back);
-    Two { first, second }
+    (first, second)
 }
 
 // The same the other way round: a code word that is accepted is made again from the message that was read.
-pub fn read_then_code(book: &[u8], word: &[u8], message: &mut [u8], back: &mut [u8]) -> Two
+pub fn read_then_code(book: &[u8], word: &[u8], message: &mut [u8], back: &mut [u8]) -> (u32, u32)
     ensures returns_there { Returns (read_refusal book.now word.now (length message.old))
-        [] (message_of book.now word.now) message.old result.first message.new }
+        [] (message_of book.now word.now) message.old result.0 message.new }
     ensures returns_back { Returns (code_refusal book.now message.new (length back.old))
-        [] (coded book.now message.new) back.old result.second back.new }
+        [] (coded book.now message.new) back.old result.1 back.new }
     ensures given_back { read_refusal book.now word.now (length message.old) ≡ 0
         → length back.old ≡ (book_of book.now).n
-        → GivenBackOverC result.first result.second word.now back.new }
+        → GivenBackOverC result.0 result.1 word.now back.new }
 {
     let first = shiftsum::shiftsum_read(book, word, message);
     let second = shiftsum::shiftsum_code(book, message, back);
-    Two { first, second }
+    (first, second)
 }
 
 // Both calls return and write what the definition says, whatever is given; and where the second message is the first written out, they return and write
@@ -88,17 +81,17 @@ pub fn code_twice(
     word: &mut [u8],
     whole: &[u8],
     word2: &mut [u8],
-) -> Two
+) -> (u32, u32)
     ensures returns_first { Returns (code_refusal book.now message.now (length word.old))
-        [] (coded book.now message.now) word.old result.first word.new }
+        [] (coded book.now message.now) word.old result.0 word.new }
     ensures returns_second { Returns (code_refusal book.now whole.now (length word2.old))
-        [] (coded book.now whole.now) word2.old result.second word2.new }
+        [] (coded book.now whole.now) word2.old result.1 word2.new }
     ensures same_word { GivenWrittenOut book.now message.now whole.now (length word.old) (length word2.old)
-        → SameWordOverC result.first result.second word.new word2.new }
+        → SameWordOverC result.0 result.1 word.new word2.new }
 {
     let first = shiftsum::shiftsum_code(book, message, word);
     let second = shiftsum::shiftsum_code(book, whole, word2);
-    Two { first, second }
+    (first, second)
 }
 
 // Both calls return and write what the definition says, whatever is given; and of two words the remainders are equal exactly if the words differ by a
@@ -109,17 +102,17 @@ pub fn remainder_twice(
     remainder: &mut [u8],
     word2: &[u8],
     remainder2: &mut [u8],
-) -> Two
+) -> (u32, u32)
     ensures returns_first { Returns (remainder_refusal book.now word.now (length remainder.old))
-        [] (remainder_of book.now word.now) remainder.old result.first remainder.new }
+        [] (remainder_of book.now word.now) remainder.old result.0 remainder.new }
     ensures returns_second { Returns (remainder_refusal book.now word2.now (length remainder2.old))
-        [] (remainder_of book.now word2.now) remainder2.old result.second remainder2.new }
+        [] (remainder_of book.now word2.now) remainder2.old result.1 remainder2.new }
     ensures sorted { GivenTwo book.now word.now word2.now (length remainder.old) (length remainder2.old)
-        → SortedOverC book.now word.now word2.now result.first result.second remainder.new remainder2.new }
+        → SortedOverC book.now word.now word2.now result.0 result.1 remainder.new remainder2.new }
 {
     let first = shiftsum::shiftsum_remainder(book, word, remainder);
     let second = shiftsum::shiftsum_remainder(book, word2, remainder2);
-    Two { first, second }
+    (first, second)
 }
 
 // One call of game, after calls of code: it returns and writes what the definition says, whatever is given. For all messages f: where the burst is their words,

@@ -51,7 +51,12 @@ fn wanted(field: [u8; FIELD], got: usize) -> usize
 }
 
 // What the field and the codebook so far tell: none while some of it is still coming. A codebook that is whole is opened.
-fn judge(field: [u8; FIELD], got: usize, book: &[u8], t: &mut [u8]) -> Result<Option<Params>, Refusal>
+fn judge(
+    field: [u8; FIELD],
+    got: usize,
+    book: &[u8],
+    t: &mut [u8],
+) -> Result<Option<Params>, Refusal>
     requires { (length field ≡ 2) × (got ≤ 2) × (length t.old ≡ 8192) }
     ensures { Told (take got field) book.now result t.new }
 {

@@ -28,6 +28,9 @@ use Rattle.stream_state.specs.Part.{Least, Filled}
 use Rattle.stream_state.proofs.Pieces.{steps_split, steps_text_split}
 use Rattle.stream_serve.specs.Serving.{serving_state, Going, Served}
 
+pub row_fits : (n : ℕ) (piece : List ℕ) {words more : ℕ} → Least more (length piece / n) words → words * n ≤ length piece
+row_fits n piece least = le_trans (mul-le-mul least.right (le_refl n)) (div-mul-le_self (length piece) n)
+
 module _ (bytes : List ℕ) (c : Params) (d : Describes bytes c) (a : Answers) (few : a.count < most_words) (piece : List ℕ) where
   abbrev from : List ℕ → M.State
   from field = serving_state field bytes a
@@ -45,11 +48,8 @@ module _ (bytes : List ℕ) (c : Params) (d : Describes bytes c) (a : Answers) (
     abbrev size : ℕ
     size = words * c.n
 
-    pub row_fits : size ≤ length piece
-    row_fits = le_trans (mul-le-mul least.right (le_refl c.n)) (div-mul-le_self (length piece) c.n)
-
     row-size : length (take size piece) ≡ words * word_size bytes
-    row-size = length-take-le size piece row_fits ∙ ap (λ (n : ℕ). words * n) d.n_is
+    row-size = length-take-le size piece (row_fits c.n piece least) ∙ ap (λ (n : ℕ). words * n) d.n_is
 
     none-begun : (field : List ℕ) → (from field).begun ≡ []
     unfolding serving_state
@@ -66,7 +66,7 @@ module _ (bytes : List ℕ) (c : Params) (d : Describes bytes c) (a : Answers) (
     module _ {terms out₀ out : List ℕ} {end : ℕ} (printed : Printed out₀ a.end (lines_of bytes words (take size piece)) out end)
         (end_le : end ≤ a.end + 6 * length (take size piece)) (terms_are : TermsRoom bytes c terms) where
       ends : end ≤ a.end + 6 * (a.held + length piece)
-      ends = omega (arith, length-take-le size piece row_fits, row_fits)
+      ends = omega (arith, length-take-le size piece (row_fits c.n piece least), row_fits c.n piece least)
 
       -- no more words are read
       module _ (full : a.count + words ≡ most_words) where

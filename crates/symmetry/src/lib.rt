@@ -14,13 +14,6 @@ use burst::Burst;
 use decode::Decoded;
 use refusal::Refusal;
 
-// What the two calls answer.
-#[derive(Clone, Copy)]
-pub struct Two {
-    pub first: Result<Decoded, Refusal>,
-    pub second: Result<Decoded, Refusal>,
-}
-
 // Both calls answer and write what decode's definition says, whatever is given. For all t, c and v together: where the second word is the first turned by t,
 // times the nonzero symbol c, plus the code word v, the book is accepted and the outputs have their exact sizes, what they answer and write is related as
 // demand 3 says, whatever the outputs held before.
@@ -32,29 +25,22 @@ pub fn decode_twice(
     received2: &[u8],
     answer2: &mut [u8],
     entries2: &mut [u16],
-) -> Two
+) -> (Result<Decoded, Refusal>, Result<Decoded, Refusal>)
     ensures decodes_first { Decodes (decode_refusal book.now received.now (length answer.old) (length entries.old))
-        (decode_bytes book.now received.now) answer.old entries.old (decoded.said result.first)
+        (decode_bytes book.now received.now) answer.old entries.old (decoded.said result.0)
         answer.new entries.new }
     ensures decodes_second { Decodes (decode_refusal book.now received2.now (length answer2.old) (length entries2.old))
-        (decode_bytes book.now received2.now) answer2.old entries2.old (decoded.said result.second)
+        (decode_bytes book.now received2.now) answer2.old entries2.old (decoded.said result.1)
         answer2.new entries2.new }
     ensures moved { (t c : ℕ) (v : List ℕ)
         → Given book.now t c v received.now received2.now (length answer.old) (length entries.old)
         (length answer2.old) (length entries2.old)
-        → Related book.now t c v (decoded.said result.first) (decoded.said result.second) answer.new answer2.new entries.new
+        → Related book.now t c v (decoded.said result.0) (decoded.said result.1) answer.new answer2.new entries.new
         entries2.new }
 {
     let first = decode::decode(book, received, answer, entries);
     let second = decode::decode(book, received2, answer2, entries2);
-    Two { first, second }
-}
-
-// What the two bursts answer.
-#[derive(Clone, Copy)]
-pub struct TwoBursts {
-    pub first: Result<Burst, Refusal>,
-    pub second: Result<Burst, Refusal>,
+    (first, second)
 }
 
 // The same of two bursts of one count of words: both answer and write what the definition says, whatever is given. For all words w, and for all turns t,
@@ -71,21 +57,21 @@ pub fn burst_twice(
     answers2: &mut [u8],
     list2: usize,
     entries2: &mut [u16],
-) -> TwoBursts
+) -> (Result<Burst, Refusal>, Result<Burst, Refusal>)
     ensures answered_first { Answered (burst_refusal book.now words received.now (length answers.old) list (length entries.old))
-        words (burst_word book.now words received.now) answers.old entries.old result.first answers.new
+        words (burst_word book.now words received.now) answers.old entries.old result.0 answers.new
         entries.new }
     ensures answered_second { Answered (burst_refusal book.now words received2.now (length answers2.old) list2 (length entries2.old))
-        words (burst_word book.now words received2.now) answers2.old entries2.old result.second answers2.new
+        words (burst_word book.now words received2.now) answers2.old entries2.old result.1 answers2.new
         entries2.new }
     ensures moved { (w : ℕ → List ℕ) (t c : ℕ → ℕ) (v : ℕ → List ℕ)
         → GivenBursts book.now words w t c v received.now received2.now
         → BurstSizes book.now words (length answers.old) list (length entries.old)
         → BurstSizes book.now words (length answers2.old) list2 (length entries2.old)
-        → RelatedBursts book.now words t c v (said result.first) (said result.second) answers.new answers2.new
-        (made_bytes result.first) (made_bytes result.second) entries.new entries2.new }
+        → RelatedBursts book.now words t c v (said result.0) (said result.1) answers.new answers2.new
+        (made_bytes result.0) (made_bytes result.1) entries.new entries2.new }
 {
     let first = burst::decode_burst(book, words, received, answers, list, entries);
     let second = burst::decode_burst(book, words, received2, answers2, list2, entries2);
-    TwoBursts { first, second }
+    (first, second)
 }

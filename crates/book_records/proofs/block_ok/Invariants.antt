@@ -1,6 +1,6 @@
 -- `book_records::block_ok` meets its contract. The invariant: `bad` is the number of places below j that are not below their bound.
 -- Assumes nothing.
-use Prim.Native.Nat.{◌+◌, ◌-◌}
+use Prim.Native.Nat.{◌+◌}
 use lib.Dec.{leb}
 use lib.ListN.{get_or}
 use Rattle.word_array.proofs.Counted.{Counted}

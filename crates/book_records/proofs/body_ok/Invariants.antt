@@ -1,6 +1,5 @@
 -- `book_records::body_ok` meets its contract. The invariant: `ok` says whether the places of the first b blocks are below their bounds.
 -- Assumes nothing.
-use Prim.Native.Nat.{◌-◌}
 use Rattle.book_records.proofs.Bounded.{Bounded}
 use Rattle.book_records.proofs.body_ok.Given as goal
 

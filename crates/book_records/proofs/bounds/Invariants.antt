@@ -1,7 +1,7 @@
 -- `book_records::bounds` meets its contract. The invariant: the places from 1 to j hold q, the first has 255, the others 1.
 -- Assumes nothing.
 use mathlib.Core.Bool.{cond}
-use Prim.Native.Nat.{◌+◌, ◌-◌, ◌≤◌}
+use Prim.Native.Nat.{◌+◌, ◌≤◌}
 use lib.Dec.{eqb}
 use lib.ListN.{replicate}
 use Rattle.spec_range.proofs.Loop.{Over}

@@ -1,6 +1,5 @@
 -- `book_records::dual_bodies_ok` meets its contract. The invariant: the bodies of the dual words below l are right.
 -- Assumes nothing.
-use Prim.Native.Nat.{◌-◌}
 use Rattle.spec_range.proofs.Loop.{Passing}
 use Rattle.spec_book.specs.Layout.{width, dual_at, duals_in}
 use Rattle.spec_book.specs.Conditions.{body_ok}

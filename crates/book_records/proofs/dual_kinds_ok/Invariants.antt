@@ -1,6 +1,5 @@
 -- `book_records::dual_kinds_ok` meets its contract. The invariant: the dual words below l have their kind byte.
 -- Assumes nothing.
-use Prim.Native.Nat.{◌-◌}
 use lib.Dec.{eqb}
 use Rattle.spec_range.proofs.Loop.{Passing}
 use Rattle.spec_book.specs.Layout.{width, dual_at, duals_in, byte}

@@ -1,6 +1,5 @@
 -- `decode_update::at_most` meets its contract. The invariant: `count` is the number of those of the first b blocks that are at most x.
 -- Assumes nothing.
-use Prim.Native.Nat.{◌-◌}
 use lib.Dec.{leb}
 use Rattle.word_array.specs.Stored.{place}
 use Rattle.decode_update.proofs.Counts.{Blocked}

@@ -1,6 +1,6 @@
 -- `decode_update::at_most_block` meets its contract. The invariant: `count` is the number of those below place j of the block that are at most x.
 -- Assumes nothing.
-use Prim.Native.Nat.{◌+◌, ◌-◌}
+use Prim.Native.Nat.{◌+◌}
 use lib.Dec.{leb}
 use Rattle.word_array.specs.Stored.{place}
 use Rattle.word_array.proofs.Counted.{Counted}

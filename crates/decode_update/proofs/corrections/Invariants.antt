@@ -1,6 +1,6 @@
 -- `decode_update::corrections` meets its contract. The invariant: the places below j hold what the counts admit of each column's symbol.
 -- Assumes nothing.
-use Prim.Native.Nat.{◌-◌, ◌≤◌}
+use Prim.Native.Nat.{◌≤◌}
 use Rattle.spec_range.proofs.Loop.{Held}
 use Rattle.word_array.specs.Stored.{place}
 use Rattle.decode_update.specs.Rule.{at_most, at_least, admitted}

@@ -1,6 +1,6 @@
 -- `decode_update::largest` meets its contract. The invariant: the numbers below place j are at most `most`.
 -- Assumes nothing.
-use Prim.Native.Nat.{ℕ, ◌-◌, ◌≤◌, ◌<◌}
+use Prim.Native.Nat.{ℕ, ◌≤◌, ◌<◌}
 use Rattle.word_array.specs.Stored.{place}
 use Rattle.decode_update.proofs.largest.Given as goal
 

@@ -1,6 +1,6 @@
 -- `decode_update::peaks` meets its contract. The invariant: rows 1 to i - 1 are taken.
 -- Assumes nothing.
-use Prim.Native.Nat.{◌+◌, ◌-◌, ◌^◌}
+use Prim.Native.Nat.{◌^◌}
 use Rattle.decode_update.proofs.Climbing.{Climbing}
 use Rattle.decode_update.proofs.peaks.Given as goal
 

@@ -1,6 +1,5 @@
 -- `decode_update::take_row` meets its contract. The invariant: the places below j have taken the row, the others are as they were.
 -- Assumes nothing.
-use Prim.Native.Nat.{◌-◌}
 use Rattle.decode_update.proofs.Taking.{Taking}
 use Rattle.decode_update.proofs.take_row.Given as goal
 

@@ -1,6 +1,5 @@
 -- `field_powers::put` meets its contract. The invariant: the exponents below e are put, and `symbol` is the next power.
 -- Assumes nothing.
-use Prim.Native.Nat.{◌-◌}
 use Rattle.field_powers.proofs.Logging.{Logging}
 use Rattle.field_powers.proofs.put.Given as goal
 

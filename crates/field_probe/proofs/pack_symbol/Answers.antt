@@ -3,5 +3,5 @@
 use native.Mathlib.Omega.{arith}
 use Rattle.field_probe.proofs.pack_symbol.Goals as goal
 
-pub returns-in-Value : goal.returns-in-Value
-returns-in-Value c = rw c.in-Value.is (omega arith)
+pub returns-in-Ok : goal.returns-in-Ok
+returns-in-Ok c = rw c.in-Ok.is (omega (arith, c.from.ensures))

@@ -8,16 +8,22 @@ use Rattle.stream.proofs.open_and_serve.Goals as goal
 
 pub serve-requires : goal.serve-requires
 serve-requires c =
-    let opened = c.open_with-taken in
-    let taken = opened.ensures in
-    let rest = length-drop opened.result.at c.args.piece.now in
-    let rooms = c.requires.2 in (
+    let taken = c.open_with-taken.ensures in
+    let at = c.open_with-taken.result.at in (
       taken.sound,
       c.in-Answering.is,
-      rooms.answer_size,
-      rooms.entries_size,
-      rw (rest_is c.args.piece.now opened.result.at)
-          (omega (arith, rest, taken.end_le, taken.sound.sized.held_le, taken.within, rooms.out_size, opened.auto)),
+      c.requires.2.answer_size,
+      c.requires.2.entries_size,
+      rw (rest_is c.args.piece.now at)
+          (omega (
+            arith,
+            length-drop at c.args.piece.now,
+            taken.end_le,
+            taken.sound.sized.held_le,
+            taken.within,
+            c.requires.2.out_size,
+            c.open_with-taken.auto,
+          )),
     )
 
 pub returns-in-Opening : goal.returns-in-Opening
@@ -27,11 +33,10 @@ returns-in-Opening c =
 
 pub returns-in-Answering : goal.returns-in-Answering
 returns-in-Answering c =
-    let at = c.open_with-taken.result.at in
-    let rest = rw (rest_is c.args.piece.now at) at c.serve.ensures.0 in
-    (steps_then c.args.piece.now at c.open_with-taken.ensures.steps_are rest, c.serve.ensures.1)
+    let rest = rw (rest_is c.args.piece.now c.open_with-taken.result.at) at c.serve.ensures.0 in
+    (steps_then _ _ c.open_with-taken.ensures.steps_are rest, c.serve.ensures.1)
 
 pub returns-in-Ended : goal.returns-in-Ended
 returns-in-Ended c =
-    let taken = c.open_with-taken in
-    (steps_over c.args.piece.now taken.result.at taken.ensures.steps_are c.in-Ended.is, taken.ensures.sound)
+    let taken = c.open_with-taken.ensures in
+    (steps_over _ _ taken.steps_are c.in-Ended.is, taken.sound)

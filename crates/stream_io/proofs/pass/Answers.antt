@@ -1,4 +1,6 @@
-use Rattle.std.proofs.Common.{rules, arith, ◌≡◌, ◌≢◌, length, take, nat_eq, refl, sym, ◌∙◌}
+-- `stream_io::pass` meets its contract: a turn answers a piece, and where no turn is left the end of input is answered.
+-- Assumes nothing.
+use Rattle.std.proofs.Common.{rules, arith, ◌≡◌, length, take, nat_eq, refl, sym, ◌∙◌}
 use Rattle.std.proofs.lemmas.Bool.{eqb-true, eqb-false}
 use Rattle.stream_io.proofs.Passing.{begins, passes, ends_read, ends_cut, ends_all}
 use Rattle.stream_io.proofs.pass.Goals as goal
@@ -11,15 +13,14 @@ loop-left-init g c = (
 
 pub loop-left-preserved : goal.loop-left-preserved
 loop-left-preserved g c =
-    let (run, passing) = c.loop-left.invariant in
-    let taken = c.take_piece-taken in
-    let count = taken.result.count in
-    let piece = taken.new.piece in
+    let count = c.take_piece-taken.result.count in
+    let piece = c.take_piece-taken.new.piece in
     let size : length piece ≡ length c.args.input.now = search rules in (
       search rules,
-      passes passing c.loop-left-test.true _ _ (take count piece) _ _ _ _ _ _ _ (nat_eq count (length piece)) taken.ensures.bytes
-          (λ f s. let short : count ≢ length piece = eqb-false count (length piece) s in taken.ensures.short f (omega (arith, short, taken.ensures.within)))
-          (λ f. sym taken.ensures.prefix ∙ eqb-true count (length piece) f ∙ size)
+      passes c.loop-left.invariant.1 c.loop-left-test.true _ _ (take count piece) _ _ _ _ _ _ _ (nat_eq count (length piece))
+          c.take_piece-taken.ensures.bytes
+          (λ f s. c.take_piece-taken.ensures.short f (omega (arith, eqb-false count (length piece) s, c.take_piece-taken.ensures.within)))
+          (λ f. sym c.take_piece-taken.ensures.prefix ∙ eqb-true count (length piece) f ∙ size)
           c.step-stepped.ensures.0
           c.send-sent.ensures.sent
           c.send-sent.ensures.cut

@@ -1,3 +1,5 @@
+-- `stream_io::send` meets its contract. The invariant: what was written is the front of the text.
+-- Assumes nothing.
 use Rattle.std.proofs.Common.{arith, ◌≤◌, length, drop, subst, length-drop}
 use Rattle.std.proofs.lemmas.List.{take_rest}
 use Rattle.stream_io.proofs.Moving.{appends_more}

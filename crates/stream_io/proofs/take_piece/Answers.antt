@@ -1,3 +1,5 @@
+-- `stream_io::take_piece` meets its contract. The invariant: what was read stands at the front of the piece.
+-- Assumes nothing.
 use Rattle.std.proofs.Common.{rules, arith, ◌≡◌, ◌-◌, length}
 use borrow.Rule.Slice.PartMut.{same_len_mid}
 use Rattle.stream_io.proofs.Moving.{consumes_more}

@@ -11,10 +11,8 @@ use Rattle.stream_open.proofs.open_with.Goals as goal
 
 pub fill-body-requires : goal.fill-body-requires
 fill-body-requires c =
-    let wants = c.wanted-size.ensures in
-    let waiting = in_opening c.args.s _ _ c.requires.0 c.requires.1 in
-    let came = came_wanted c.args.s waiting c.requires.0.sized c.fill-head.ensures in
-    (omega (arith, wants.0), omega (arith, wants.1))
+    let came = came_wanted _ (in_opening _ _ _ c.requires.0 c.requires.1) c.requires.0.sized c.fill-head.ensures in
+    (omega (arith, c.wanted-size.ensures.0), omega (arith, c.wanted-size.ensures.1))
 
 pub slice_bounds-judge-end : goal.slice_bounds-judge-end
 slice_bounds-judge-end c = sym (length-take-le _ _ (omega arith))
@@ -30,10 +28,8 @@ overflow_add-result c = omega (arith, c.fill-body.ensures.joined.within, c.fill-
 
 pub returns : goal.returns
 returns c =
-    let wants = c.wanted-size.ensures in
-    let waiting = in_opening c.args.s _ _ c.requires.0 c.requires.1 in
-    let grown = rw (rest_is c.args.piece.now c.fill-head.result) at c.fill-body.ensures in
-    opens c.args.s waiting c.requires.0.sized c.fill-head.ensures c.requires.1 wants.0 wants.1 grown
-    c.settled.ensures c.judge-told.ensures c.put_told-end.ensures.0 c.put_told-end.ensures.1 c.requires.2
+    opens _ (in_opening _ _ _ c.requires.0 c.requires.1) c.requires.0.sized c.fill-head.ensures c.requires.1 c.wanted-size.ensures.0
+    c.wanted-size.ensures.1 (rw (rest_is c.args.piece.now c.fill-head.result) at c.fill-body.ensures) c.settled.ensures
+    c.judge-told.ensures c.put_told-end.ensures.0 c.put_told-end.ensures.1 c.requires.2
     (omega (arith, c.requires.0.table_size)) (length-set c.args.terms.now 0 0 ∙ c.requires.0.terms_size)
     (get_or-set_same c.args.terms.now 0 0 0 (omega (arith, c.requires.0.terms_size)))

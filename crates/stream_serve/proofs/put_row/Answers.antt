@@ -1,7 +1,6 @@
 -- `stream_serve::put_row` meets its contract: the row is full, or what is left begins a word.
 -- Assumes nothing.
 use mathlib.Core.Path.{sym}
-use Prim.Native.Nat.{◌*◌}
 use native.Mathlib.Omega.{arith}
 use lib.Seq.{length-take-le}
 use Rattle.book.proofs.Described.{params_sizes}
@@ -13,34 +12,23 @@ pub whole_words-words-requires : goal.whole_words-words-requires
 whole_words-words-requires c = (omega arith, omega (arith, c.requires.1.held_lt))
 
 pub overflow_mul-size : goal.overflow_mul-size
-overflow_mul-size c =
-    let fits = row_fits c.args.book.now c.args.c c.requires.0.describes c.args.a c.requires.3 c.args.piece.now c.requires.2 c.requires.1
-    c.whole_words-words.ensures in
-    omega arith
+overflow_mul-size c = omega (arith, row_fits c.args.c.n c.args.piece.now c.whole_words-words.ensures)
 
 pub slice_bounds-put_words-end : goal.slice_bounds-put_words-end
-slice_bounds-put_words-end c =
-    let fits = row_fits c.args.book.now c.args.c c.requires.0.describes c.args.a c.requires.3 c.args.piece.now c.requires.2 c.requires.1
-    c.whole_words-words.ensures in
-    sym (length-take-le _ _ fits)
+slice_bounds-put_words-end c = sym (length-take-le _ _ (row_fits c.args.c.n c.args.piece.now c.whole_words-words.ensures))
 
 pub put_words-end-requires : goal.put_words-end-requires
 put_words-end-requires c =
-    let fits = row_fits c.args.book.now c.args.c c.requires.0.describes c.args.a c.requires.3 c.args.piece.now c.requires.2 c.requires.1
-    c.whole_words-words.ensures in
-    let size = length-take-le (c.whole_words-words.result * c.args.c.n) c.args.piece.now fits in
-    (c.requires.0, size, omega arith)
+    let fits = row_fits c.args.c.n c.args.piece.now c.whole_words-words.ensures in
+    (c.requires.0, length-take-le _ _ fits, omega (arith, length-take-le _ c.args.piece.now fits))
 
 pub returns-then-count-eq-MOST : goal.returns-then-count-eq-MOST
 returns-then-count-eq-MOST c =
-    row-full c.args.book.now c.args.c c.requires.0.describes c.args.a c.requires.3 c.args.piece.now c.requires.2 c.requires.1
-    c.whole_words-words.ensures c.put_words-end.ensures.0 c.put_words-end.ensures.1 c.put_words-end.ensures.2 c.if-count-eq-MOST.true
+    row-full _ _ c.requires.0.describes _ c.requires.3 _ c.requires.2 c.requires.1 c.whole_words-words.ensures c.put_words-end.ensures.0
+    c.put_words-end.ensures.1 c.put_words-end.ensures.2 c.if-count-eq-MOST.true
 
 pub slice_bounds-fill-count : goal.slice_bounds-fill-count
-slice_bounds-fill-count c =
-    let fits = row_fits c.args.book.now c.args.c c.requires.0.describes c.args.a c.requires.3 c.args.piece.now c.requires.2 c.requires.1
-    c.whole_words-words.ensures in
-    omega arith
+slice_bounds-fill-count c = omega (arith, row_fits c.args.c.n c.args.piece.now c.whole_words-words.ensures)
 
 pub fill-held-requires : goal.fill-held-requires
 fill-held-requires c =
@@ -48,7 +36,5 @@ fill-held-requires c =
 
 pub returns : goal.returns
 returns c =
-    let size = c.whole_words-words.result * c.args.c.n in
-    row-rest c.args.book.now c.args.c c.requires.0.describes c.args.a c.requires.3 c.args.piece.now c.requires.2 c.requires.1
-    c.whole_words-words.ensures c.put_words-end.ensures.0 c.put_words-end.ensures.1 c.put_words-end.ensures.2 c.if-count-eq-MOST.false
-    (rw (rest_is c.args.piece.now size) at c.fill-held.ensures)
+    row-rest _ _ c.requires.0.describes _ c.requires.3 _ c.requires.2 c.requires.1 c.whole_words-words.ensures c.put_words-end.ensures.0
+    c.put_words-end.ensures.1 c.put_words-end.ensures.2 c.if-count-eq-MOST.false (rw (rest_is c.args.piece.now _) at c.fill-held.ensures)

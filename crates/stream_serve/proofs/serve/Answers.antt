@@ -9,50 +9,45 @@ use Rattle.stream_serve.proofs.serve.Goals as goal
 
 pub matrix_size-size-requires : goal.matrix_size-size-requires
 matrix_size-size-requires c =
-    let opened = serving c.args.s _ _ c.requires.0 c.requires.1 in
-    let sizes = params_sizes _ _ opened.describes in
+    let sizes = params_sizes _ _ (serving _ _ _ c.requires.0 c.requires.1).describes in
     (sizes.p_high, sizes.n_high)
 
 pub slice_bounds-answer-end : goal.slice_bounds-answer-end
 slice_bounds-answer-end c = sym (length-take-le _ _ (omega (arith, c.requires.0.sized)))
 
 pub slice_bounds-answer-end-2 : goal.slice_bounds-answer-end-2
-slice_bounds-answer-end-2 c =
-    let opened = serving c.args.s _ _ c.requires.0 c.requires.1 in
-    omega (arith, (params_sizes _ _ opened.describes).n_high)
+slice_bounds-answer-end-2 c = omega (arith, (params_sizes _ _ (serving _ _ _ c.requires.0 c.requires.1).describes).n_high)
 
 pub slice_bounds-answer-end-3 : goal.slice_bounds-answer-end-3
 slice_bounds-answer-end-3 c =
-    let opened = serving c.args.s _ _ c.requires.0 c.requires.1 in
-    sym (length-take-le _ _ (omega (arith, (params_sizes _ _ opened.describes).n_high)))
+    sym (length-take-le _ _ (omega (arith, (params_sizes _ _ (serving _ _ _ c.requires.0 c.requires.1).describes).n_high)))
 
 pub slice_bounds-answer-end-4 : goal.slice_bounds-answer-end-4
 slice_bounds-answer-end-4 c =
-    let opened = serving c.args.s _ _ c.requires.0 c.requires.1 in
-    omega (arith, params_room _ _ opened.describes, c.matrix_size-size.ensures)
+    omega (arith, params_room _ _ (serving _ _ _ c.requires.0 c.requires.1).describes, c.matrix_size-size.ensures)
 
 pub slice_bounds-answer-end-5 : goal.slice_bounds-answer-end-5
 slice_bounds-answer-end-5 c =
-    let opened = serving c.args.s _ _ c.requires.0 c.requires.1 in
-    sym (length-take-le _ _ (omega (arith, params_room _ _ opened.describes, c.matrix_size-size.ensures)))
+    sym
+    (length-take-le _ _
+    (omega (arith, params_room _ _ (serving _ _ _ c.requires.0 c.requires.1).describes, c.matrix_size-size.ensures)))
 
 pub answer-done-requires : goal.answer-done-requires
 answer-done-requires c =
-    let opened = serving c.args.s _ _ c.requires.0 c.requires.1 in
-    let size = c.matrix_size-size.ensures in (
+    let opened = serving _ _ _ c.requires.0 c.requires.1 in (
       record {
         describes = opened.describes;
         table_is = opened.table_is;
         terms_are = opened.terms_are;
         answer_size = length-take-le _ _ (omega (arith, (params_sizes _ _ opened.describes).n_high));
-        matrix_size = length-take-le _ _ (omega (arith, params_room _ _ opened.describes, size)) ∙ size;
+        matrix_size =
+            length-take-le _ _ (omega (arith, params_room _ _ opened.describes, c.matrix_size-size.ensures)) ∙ c.matrix_size-size.ensures;
       },
-      from_going c.args.s _ _ c.requires.0 c.requires.1 c.args.«end»,
+      from_going _ _ _ c.requires.0 c.requires.1 c.args.«end»,
       opened.count_lt,
       c.requires.4,
     )
 
 pub returns : goal.returns
 returns c =
-    serves c.args.s _ _ c.requires.0 c.requires.1 c.answer-done.ensures c.resumed.ensures c.requires.4
-    (omega (arith, c.requires.0.terms_size))
+    serves _ _ _ c.requires.0 c.requires.1 c.answer-done.ensures c.resumed.ensures c.requires.4 (omega (arith, c.requires.0.terms_size))

@@ -42,8 +42,7 @@ loop-word-preserved c =
     let size = c.in-Some.ensures.steps.1.1 ∙ c.loop-word.invariant.2 in
     let d = row.ready.describes in
     let low = word_low _ _ d in
-    let line = c.put_word-next.ensures in
-    (
+    let line = c.put_word-next.ensures in (
       omega arith,
       tt,
       c.in-Some.ensures.steps.0 ∙ c.loop-word.invariant.2,

@@ -1,7 +1,7 @@
 -- `book::generator::degree` meets its contract. The invariant: d is the degree of the places below i.
 -- Assumes nothing.
 use mathlib.Core.Path.{◌≡◌}
-use Prim.Native.Nat.{◌-◌, ◌≤◌}
+use Prim.Native.Nat.{◌≤◌}
 use Rattle.spec_book.specs.Layout.{degree_of, book_of}
 use Rattle.book.proofs.generator.degree.Given as goal
 
