@@ -115,6 +115,7 @@ fn limit(blocks: usize, row: &[u16; SPAN], most: usize, top: u16) -> u32
 {
     let mut least: u32 = 0;
     let mut width: u32 = top as u32 + 1;
+    // What is left is halved, which no range counts.
     while 1 < width {
         let half = width / 2;
         if at_most(blocks, row, (least + half - 1) as u16) <= most {

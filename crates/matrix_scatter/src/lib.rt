@@ -13,7 +13,7 @@ ghost use Rattle.matrix_scatter.specs.Scatter.{Countable, terms_add, RowGathered
 ghost use Rattle.matrix_scatter.specs.Fill.{Cleared, Scattering, Scattered};
 
 use matrix_terms::{TERMS_AT, WEIGHT_AT};
-use sizes::{BLOCK, SPAN, STRIDE, SYMBOLS, TABLE};
+use sizes::{BLOCK, EIGHT, SPAN, STRIDE, SYMBOLS, TABLE};
 
 // The counters that a room has where they are few.
 const FEW_COUNTERS: usize = 3072;
@@ -88,10 +88,8 @@ fn count_cells(n: usize, cells: &[u16], h: usize, base: usize, counts: &mut [u16
     requires { (n ≤ 255) × ((n + 1) % 8 ≡ 0) × Within cells.now h base (n + 1) counts.old 65200 }
     ensures { counts.new ≡ raised counts.old (λ k. total (n + 1) (cell_adds cells.now h base k)) }
 {
-    let mut j = 0;
-    while j < n {
-        count_eight(cells, h + j, base, counts);
-        j += 8;
+    for i in 0..(n + 1) / EIGHT {
+        count_eight(cells, h + EIGHT * i, base, counts);
     }
 }
 

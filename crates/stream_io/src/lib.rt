@@ -40,6 +40,7 @@ fn take_piece<R: Read>(reader: &mut R, piece: &mut [u8]) -> Taken
     ensures short { result.failed ≡ false → result.count < length piece.new → IsAtEnd (R.remaining reader.new) }
 {
     let mut count = 0;
+    // A read gives as many bytes as it has: no range counts them.
     while count < piece.len() {
         match reader.read(&mut piece[count..]) {
             Ok(0) => {
@@ -69,6 +70,7 @@ fn send<W: Write>(writer: &mut W, text: &[u8]) -> bool
     ensures cut { (k : ℕ) × (k ≤ length text.now) × Appends (W.contents writer.old) (W.contents writer.new) (take k text.now) }
 {
     let mut count = 0;
+    // A write takes as many bytes as it likes: no range counts them.
     while count < text.len() {
         match writer.write(&text[count..]) {
             Ok(0) => return false,
@@ -98,6 +100,7 @@ fn pass<R: Read, W: Write>(
     let mut sent = true;
     let mut failed = false;
     let mut left = stream_turns::rooms::turns();
+    // A turn tells how many are left: the run may end before the range of them.
     while 0 < left {
         let taken = take_piece(reader, input);
         let stepped = stream::step(s, &input[..taken.count], t, terms, answer, entries, output);

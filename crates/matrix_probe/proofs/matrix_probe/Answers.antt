@@ -6,5 +6,5 @@ use Rattle.matrix_probe.proofs.matrix_probe.Goals as goal
 
 pub returns : goal.returns
 returns c =
-    let h = c.matrix-done.ensures in
+    let h = c.matrix.ensures in
     record { returns = c.pack_done.ensures ∙ ap result_of h.says; buffer = h.buffer }

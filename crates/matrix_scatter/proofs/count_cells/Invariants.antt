@@ -1,13 +1,9 @@
--- `matrix_scatter::count_cells` meets its contract. The invariant: the offsets of the places below j are counted.
+-- `matrix_scatter::count_cells` meets its contract. The invariant: the offsets of the first i eights of places are counted.
 -- Assumes nothing.
-use mathlib.Core.Path.{◌≡◌}
-use Prim.Native.Nat.{◌+◌, ◌-◌, ◌%◌}
+use Prim.Native.Nat.{◌+◌, ◌*◌}
 use Rattle.matrix_terms.proofs.Raised.{Adding}
 use Rattle.matrix_scatter.specs.Scatter.{cell_adds}
 use Rattle.matrix_scatter.proofs.count_cells.Given as goal
 
-abbrev pub invariant-loop-j : goal.invariant-loop-j
-invariant-loop-j l = (l.j % 8 ≡ 0) × Adding (l.n + 1) (cell_adds l.cells l.h l.base) l.initial.counts l.counts l.j
-
-abbrev pub decreases-loop-j : goal.decreases-loop-j
-decreases-loop-j l = l.n - l.j
+abbrev pub invariant-loop-i : goal.invariant-loop-i
+invariant-loop-i l = Adding (l.n + 1) (cell_adds l.cells l.h l.base) l.initial.counts l.counts (8 * l.i)
