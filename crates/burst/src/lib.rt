@@ -15,7 +15,7 @@ use sizes::{BURST, FEW_TABLE, LONG_FEW_TABLE, TABLE};
 mod taking; // taking.rt: which bursts are refused, once the book is open
 mod words; // words.rt: the words of a burst, decoded one after another
 
-// What is told of a word: the letter of its kind, its rounds, and how many places changed.
+// What is told of a word: the letter of its kind, its rounds, and how many places changed, in bytes, as C reads them.
 #[repr(C)]
 #[derive(Clone, Copy, Debug, PartialEq, Eq)]
 pub struct Record {
@@ -79,7 +79,9 @@ fn burst_in<const TERMS: usize, const TABLE: usize>(
     let mut terms = [0u16; TERMS];
     let mut t = [0u8; TABLE];
     let c = book::open(book, &mut t)?;
-    burst_words(book, c, &t, &mut terms, words, received, answers, list, entries)
+    burst_words(
+        book, c, &t, &mut terms, words, received, answers, list, entries,
+    )
 }
 
 // Decodes a burst: the answer words one after another, a record for each, by value, and the matrix of the last word's last round. No room is larger than the
@@ -98,7 +100,9 @@ pub fn decode_burst(
     let few = book::few_symbols(book);
     if book_layout::is_long(book) {
         if few {
-            return burst_in::<LONG_TERMS, LONG_FEW_TABLE>(book, words, received, answers, list, entries);
+            return burst_in::<LONG_TERMS, LONG_FEW_TABLE>(
+                book, words, received, answers, list, entries,
+            );
         }
         return burst_in::<LONG_TERMS, TABLE>(book, words, received, answers, list, entries);
     }

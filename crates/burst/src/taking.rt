@@ -41,5 +41,10 @@ pub fn refusal(
     let n = c.n;
     let count = words as usize;
     let sized = exact(p, n, count, room, list, entries);
-    refusals::refusal(field::order(p), received.len() == n * count, sized, received)
+    refusals::refusal(
+        field::order(p),
+        received.len() == n * count,
+        sized,
+        received,
+    )
 }

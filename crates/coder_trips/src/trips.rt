@@ -12,7 +12,12 @@ use refusal::Refusal;
 
 // Both calls answer and write what the definitions say, whatever is given; and a message that is accepted is read back, written out, from the word that
 // it was coded into.
-pub fn code_then_read(book: &[u8], message: &[u8], word: &mut [u8], back: &mut [u8]) -> (Result<(), Refusal>, Result<(), Refusal>)
+pub fn code_then_read(
+    book: &[u8],
+    message: &[u8],
+    word: &mut [u8],
+    back: &mut [u8],
+) -> (Result<(), Refusal>, Result<(), Refusal>)
     ensures wrote_there { Wrote (code_refusal book.now message.now (length word.old))
         (coded book.now message.now) word.old (said result.0) word.new }
     ensures wrote_back { Wrote (read_refusal book.now word.new (length back.old))
@@ -27,7 +32,12 @@ pub fn code_then_read(book: &[u8], message: &[u8], word: &mut [u8], back: &mut [
 }
 
 // The same the other way round: a code word that is accepted is made again from the message that was read.
-pub fn read_then_code(book: &[u8], word: &[u8], message: &mut [u8], back: &mut [u8]) -> (Result<(), Refusal>, Result<(), Refusal>)
+pub fn read_then_code(
+    book: &[u8],
+    word: &[u8],
+    message: &mut [u8],
+    back: &mut [u8],
+) -> (Result<(), Refusal>, Result<(), Refusal>)
     ensures wrote_there { Wrote (read_refusal book.now word.now (length message.old))
         (message_of book.now word.now) message.old (said result.0) message.new }
     ensures wrote_back { Wrote (code_refusal book.now message.new (length back.old))

@@ -47,7 +47,7 @@ pub enum Step {
     Going,
 }
 
-// The word after a round, and what came of it.
+// The word after a round, which stands whatever came of it, and what that was.
 #[derive(Clone, Copy)]
 pub struct Rounded {
     pub step: Step,

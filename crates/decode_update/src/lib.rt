@@ -19,7 +19,8 @@ const ENTRIES: u32 = 65536;
 // The largest of them.
 const MOST: u16 = 65535;
 
-// The symbol of a column after the row of one more symbol, whose entry is x: 0 where x only equals the peak so far.
+// The symbol of a column after the row of one more symbol, whose entry is x: 0, as SCOPE has it, where x only equals the peak so far. Symbols are bytes for
+// the vector steps of the loop.
 fn holder(count: u16, symbol: u8, x: u16, row: u8) -> u8
     ensures { result ≡ climbed count symbol x row }
 {

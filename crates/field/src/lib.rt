@@ -109,7 +109,11 @@ fn inverse_refusal(p: u8, a: u8) -> Result<(), Refusal>
     ensures { refusal_of result ≡ inverse_refusal p a }
 {
     refusal(p, a, a)?;
-    if a == 0 { Err(Refusal::ZeroInverse) } else { Ok(()) }
+    if a == 0 {
+        Err(Refusal::ZeroInverse)
+    } else {
+        Ok(())
+    }
 }
 
 // The three field operations, for all inputs.

@@ -8,7 +8,7 @@ ghost use Rattle.field.specs.Said.{said};
 
 use refusal::Refusal;
 
-// The refusal number in the lowest byte, or the symbol in byte 1.
+// The refusal number in the lowest byte, or the symbol in byte 1. (`packing` stands above decode, which the probe does not link.)
 fn pack_symbol(r: Result<u8, Refusal>) -> u32
     ensures { result ≡ result_of (said r) }
 {

@@ -7,7 +7,10 @@ ghost use Rattle.game.specs.Said.{said};
 
 use matrix_terms::{LONG_TERMS, TERMS};
 use refusal::Refusal;
-use sizes::{BURST_PLACES, FEW_MATRIX, FEW_TABLE, LONG_BURST_PLACES, LONG_FEW_MATRIX, LONG_FEW_TABLE, MATRIX, TABLE};
+use sizes::{
+    BURST_PLACES, FEW_MATRIX, FEW_TABLE, LONG_BURST_PLACES, LONG_FEW_MATRIX, LONG_FEW_TABLE,
+    MATRIX, TABLE,
+};
 
 mod rooms; // rooms.rt: the room that a book asks
 mod taking; // taking.rt: which words of a burst are held
@@ -21,12 +24,7 @@ pub enum Game {
 }
 
 // Takes a game: decodes the words of a burst, and writes the messages of all of them, or nothing. No room is larger than the book asks.
-pub fn take(
-    book: &[u8],
-    words: u32,
-    received: &[u8],
-    messages: &mut [u8],
-) -> Result<Game, Refusal>
+pub fn take(book: &[u8], words: u32, received: &[u8], messages: &mut [u8]) -> Result<Game, Refusal>
     ensures { Games book.now (game_refusal book.now words received.now (length messages.old)) words
         received.now messages.old (said result) messages.new }
 {

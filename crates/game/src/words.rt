@@ -27,7 +27,8 @@ fn read_all(c: Params, t: &[u8], words: usize, answers: &[u8], messages: &mut [u
     }
 }
 
-// Takes a game that is not refused, and so its burst is not, with room of the exact sizes for its answer words and a matrix. Nothing is written before the last word is decoded.
+// Takes a game that is not refused, and so its burst is not, with room of the exact sizes for its answer words and a matrix. Nothing is written before the last
+// word is decoded.
 fn take_words(
     book: &[u8],
     c: Params,
@@ -44,7 +45,9 @@ fn take_words(
     ensures { Games book.now 0 words received.now messages.old (said (Ok result)) messages.new }
 {
     let count = words as usize;
-    let made = burst::burst_words(book, c, t, terms, words, received, answers, count, entries).unwrap();
+    let made = burst::burst_words(
+        book, c, t, terms, words, received, answers, count, entries,
+    ).unwrap();
     let held = taking::held(made);
     if held != 0 {
         return Game::Held(held);

@@ -35,7 +35,13 @@ fn code_all(book: &[u8], c: Params, words: usize, messages: &[u8], word: &mut [u
 }
 
 // The same once the book is open, for all inputs.
-fn send_words(book: &[u8], c: Params, words: u32, messages: &[u8], out: &mut [u8]) -> Result<(), Refusal>
+fn send_words(
+    book: &[u8],
+    c: Params,
+    words: u32,
+    messages: &[u8],
+    out: &mut [u8],
+) -> Result<(), Refusal>
     requires { Describes book.now c }
     ensures { Wrote (send_input_refusal book.now words messages.now (length out.old))
         (sent book.now words messages.now) out.old (said result) out.new }

@@ -15,7 +15,7 @@ ghost use Rattle.matrix_terms.specs.RowZero.{Covers, Subtracted};
 use field_powers::POWERS_AT;
 use sizes::{BLOCK, DUALS, SPAN};
 
-// Where a room has the weight of the dual words; 0 there says that nothing is listed yet.
+// Where a room has the weight of the dual words, which is not 0; 0 there says that nothing is listed yet.
 pub const WEIGHT_AT: usize = 0;
 // Where it has the terms of the first dual word.
 pub const TERMS_AT: usize = POWERS_AT + 2 * BLOCK;

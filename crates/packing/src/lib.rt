@@ -1,4 +1,5 @@
-// Results as the one number that a C caller gets: the refusal in the lowest byte, or counts and a letter in the others.
+// Results as the one number that a C caller gets: the refusal in the lowest byte, or counts and a letter in the others. They are functions and no `From`,
+// since neither a Result nor a number is a type of this crate.
 #![tactic(auto)]
 
 ghost use Rattle.std.specs.Prelude.{◌≡◌};

@@ -1,18 +1,14 @@
 -- `decode::decode_word` meets its contract.
 -- Assumes nothing.
-use mathlib.Core.Path.{◌≡◌, refl, sym, ap, ◌∙◌}
-use Prim.Native.Nat.{ℕ, ◌≤◌}
+use mathlib.Core.Path.{◌≡◌, sym, ap, ◌∙◌}
+use Prim.Native.Nat.{ℕ}
 use native.Mathlib.Nat.{le_of_eq}
 use native.Mathlib.Omega.{arith}
 use borrow.Author.Rules.{rules}
 use lib.ListN.{length}
-use lib.Pow.{pow_pos}
 use Rattle.std.proofs.lemmas.Result.{err_from_is_err_and}
 use Rattle.spec_range.specs.Table.{table}
-use Rattle.sizes.specs.Blocks.{stride}
-use Rattle.sizes.proofs.Lengths.{blocks_fit}
 use Rattle.word_array.specs.Stored.{place}
-use Rattle.word_table.proofs.Rows.{rows_apart}
 use Rattle.book.proofs.Described.{params_sizes}
 use Rattle.decode.proofs.Answering.{decode_number, input-size, input-stored, input-listed, output_sizes, decodes_refused, decodes_done}
 use Rattle.decode.proofs.decode_word.Goals as goal

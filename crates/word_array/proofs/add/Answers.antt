@@ -11,10 +11,10 @@ use Rattle.word_array.proofs.add.Goals as goal
 
 pub loop-j-init : goal.loop-j-init
 loop-j-init c = let whole = c.packed_places-whole.ensures in (
-      omega (arith, whole),
-      held_front (omega (arith, whole, c.requires.0))
-          (front_sum c.args.a.now c.args.b.now _ (omega (arith, c.w-1.given.1)) c.add_eights.ensures),
-    )
+  omega (arith, whole),
+  held_front (omega (arith, whole, c.requires.0))
+      (front_sum c.args.a.now c.args.b.now _ (omega (arith, c.w-1.given.1)) c.add_eights.ensures),
+)
 
 pub loop-j-preserved : goal.loop-j-preserved
 loop-j-preserved c = let pre = c.requires in

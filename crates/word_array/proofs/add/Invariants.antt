@@ -1,6 +1,6 @@
 -- `word_array::add` meets its contract. The invariant: the places below j hold the sum.
 -- Assumes nothing.
-use Prim.Native.Nat.{◌-◌, ◌≤◌}
+use Prim.Native.Nat.{◌≤◌}
 use lib.Bits.{bit_xor}
 use Rattle.spec_range.proofs.Loop.{Held}
 use Rattle.word_array.specs.Stored.{place}

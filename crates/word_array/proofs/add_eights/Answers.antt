@@ -21,11 +21,11 @@ pack-y-requires c = omega (arith, c.pack-arg-in-loop-i-1.given.1)
 
 pub loop-i-preserved : goal.loop-i-preserved
 loop-i-preserved c = (
-      search rules,
-      over_part refl (omega arith) (omega (arith, c.loop-i.invariant.1.long)) c.unpack.ensures
-          (part-sum c.args.a.now c.args.b.now _ c.pack-x.ensures c.pack-y.ensures)
-          c.loop-i.invariant.1,
-    )
+  search rules,
+  over_part refl (omega arith) (omega (arith, c.loop-i.invariant.1.long)) c.unpack.ensures
+      (part-sum c.args.a.now c.args.b.now _ c.pack-x.ensures c.pack-y.ensures)
+      c.loop-i.invariant.1,
+)
 
 pub shape_of-out : goal.shape_of-out
 shape_of-out c = c.loop-i.invariant.1.long

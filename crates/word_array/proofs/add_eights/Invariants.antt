@@ -1,6 +1,6 @@
 -- `word_array::add_eights` meets its contract. The invariant: the places of the first i eights hold the sum.
 -- Assumes nothing.
-use Prim.Native.Nat.{◌-◌, ◌*◌, ◌≤◌}
+use Prim.Native.Nat.{◌*◌, ◌≤◌}
 use lib.Bits.{bit_xor}
 use Rattle.spec_range.proofs.Loop.{Over}
 use Rattle.word_array.specs.Stored.{place}

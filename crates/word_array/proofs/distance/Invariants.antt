@@ -1,6 +1,5 @@
 -- `word_array::distance` meets its contract. The invariant: `count` is the number of places below j where the words differ.
 -- Assumes nothing.
-use Prim.Native.Nat.{◌-◌}
 use lib.Dec.{eqb}
 use mathlib.Core.Bool.{not}
 use Rattle.word_array.specs.Stored.{place}

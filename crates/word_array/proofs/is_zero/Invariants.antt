@@ -1,6 +1,5 @@
 -- `word_array::is_zero` meets its contract. The invariant: `found` is the number of nonzero places below j.
 -- Assumes nothing.
-use Prim.Native.Nat.{◌-◌}
 use Rattle.spec_word.specs.Word.{nonzero}
 use Rattle.word_array.specs.Stored.{place}
 use Rattle.word_array.proofs.Counted.{Counted}

@@ -1,6 +1,6 @@
 -- `word_packed::pack` meets its contract. The invariant: the symbols below k are packed.
 -- Assumes nothing.
-use Prim.Native.Nat.{◌-◌, ◌≤◌}
+use Prim.Native.Nat.{◌≤◌}
 use lib.ListN.{get_or}
 use Rattle.word_packed.proofs.Gathering.{Gathered}
 use Rattle.word_packed.proofs.pack.Given as goal

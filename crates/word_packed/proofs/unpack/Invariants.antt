@@ -1,6 +1,6 @@
 -- `word_packed::unpack` meets its contract. The invariant: the places below k are written.
 -- Assumes nothing.
-use Prim.Native.Nat.{◌-◌, ◌≤◌}
+use Prim.Native.Nat.{◌≤◌}
 use Rattle.spec_range.proofs.Loop.{Over}
 use Rattle.spec_word.specs.Lanes.{lane}
 use Rattle.word_packed.proofs.unpack.Given as goal
