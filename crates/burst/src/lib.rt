@@ -62,28 +62,6 @@ pub fn burst_words(
     Ok(Burst { count, records })
 }
 
-// The same with room for so many terms and for a table of so many places. It stands apart, as for decode, also since a call has little stack to spare.
-#[inline(never)]
-fn burst_in<const TERMS: usize, const TABLE: usize>(
-    book: &[u8],
-    words: u32,
-    received: &[u8],
-    answers: &mut [u8],
-    list: usize,
-    entries: &mut [u16],
-) -> Result<Burst, Refusal>
-    requires { RoomsFit book.now TERMS TABLE }
-    ensures { Answered (burst_refusal book.now words received.now (length answers.old) list (length entries.old))
-        words (burst_word book.now words received.now) answers.old entries.old result answers.new entries.new }
-{
-    let mut terms = [0u16; TERMS];
-    let mut t = [0u8; TABLE];
-    let c = book::open(book, &mut t)?;
-    burst_words(
-        book, c, &t, &mut terms, words, received, answers, list, entries,
-    )
-}
-
 // Decodes a burst: the answer words one after another, a record for each, by value, and the matrix of the last word's last round. No room is larger than the
 // book asks.
 pub fn decode_burst(
@@ -110,4 +88,26 @@ pub fn decode_burst(
         return burst_in::<TERMS, FEW_TABLE>(book, words, received, answers, list, entries);
     }
     burst_in::<TERMS, TABLE>(book, words, received, answers, list, entries)
+}
+
+// The same with room for so many terms and for a table of so many places. It stands apart, so that a short book has no room for a long one on the stack.
+#[inline(never)]
+fn burst_in<const TERM_ROOM: usize, const TABLE_ROOM: usize>(
+    book: &[u8],
+    words: u32,
+    received: &[u8],
+    answers: &mut [u8],
+    list: usize,
+    entries: &mut [u16],
+) -> Result<Burst, Refusal>
+    requires { RoomsFit book.now TERM_ROOM TABLE_ROOM }
+    ensures { Answered (burst_refusal book.now words received.now (length answers.old) list (length entries.old))
+        words (burst_word book.now words received.now) answers.old entries.old result answers.new entries.new }
+{
+    let mut terms = [0u16; TERM_ROOM];
+    let mut t = [0u8; TABLE_ROOM];
+    let c = book::open(book, &mut t)?;
+    burst_words(
+        book, c, &t, &mut terms, words, received, answers, list, entries,
+    )
 }

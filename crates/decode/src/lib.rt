@@ -95,19 +95,19 @@ pub fn decode(
 
 // The same with room for so many terms and for a table of so many places. It stands apart, so that a short book has no room for a long one on the stack.
 #[inline(never)]
-fn decode_in<const TERMS: usize, const TABLE: usize>(
+fn decode_in<const TERM_ROOM: usize, const TABLE_ROOM: usize>(
     book: &[u8],
     received: &[u8],
     answer: &mut [u8],
     entries: &mut [u16],
 ) -> Result<Decoded, Refusal>
-    requires { RoomsFit book.now TERMS TABLE }
+    requires { RoomsFit book.now TERM_ROOM TABLE_ROOM }
     ensures { Decodes (decode_refusal book.now received.now (length answer.old) (length entries.old))
         (decode_bytes book.now received.now) answer.old entries.old (said result)
         answer.new entries.new }
 {
-    let mut terms = [0u16; TERMS];
-    let mut t = [0u8; TABLE];
+    let mut terms = [0u16; TERM_ROOM];
+    let mut t = [0u8; TABLE_ROOM];
     let c = book::open(book, &mut t)?;
     decode_word(book, c, &t, &mut terms, received, answer, entries)
 }

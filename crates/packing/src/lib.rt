@@ -60,10 +60,8 @@ pub fn pack_game(r: Result<Game, Refusal>) -> u32
     ensures { result ≡ result_of (games.said r) }
 {
     match r {
-        Ok(game) => match game {
-            Game::Whole => 16777216 * u32::from(b'W'),
-            Game::Held(count) => 256 * u32::from(count) + 16777216 * u32::from(b'H'),
-        },
+        Ok(Game::Whole) => 16777216 * u32::from(b'W'),
+        Ok(Game::Held(count)) => 256 * u32::from(count) + 16777216 * u32::from(b'H'),
         Err(why) => pack_refusal(why),
     }
 }

@@ -9,7 +9,7 @@ use Rattle.burst.proofs.Answering.{burst_ends_refused, burst_accepted, burst_ref
 use Rattle.burst.proofs.burst_in.Goals as goal
 
 pub open-requires : goal.open-requires
-open-requires g c = omega (arith, c.requires.table_fits, length-replicate {A = ℕ} g.row.TABLE 0)
+open-requires g c = omega (arith, c.requires.table_fits, length-replicate {A = ℕ} g.row.TABLE_ROOM 0)
 
 pub burst_words-requires : goal.burst_words-requires
 burst_words-requires g c = let h = c.in_ok-c.ensures.0 in (h.0, h.1, listed_room c.requires h.0)

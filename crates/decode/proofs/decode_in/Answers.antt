@@ -8,7 +8,7 @@ use Rattle.decode.proofs.Answering.{listed_room, decodes_refused, decode_refused
 use Rattle.decode.proofs.decode_in.Goals as goal
 
 pub open-requires : goal.open-requires
-open-requires g c = omega (arith, c.requires.table_fits, length-replicate {A = ℕ} g.row.TABLE 0)
+open-requires g c = omega (arith, c.requires.table_fits, length-replicate {A = ℕ} g.row.TABLE_ROOM 0)
 
 pub decode_word-requires : goal.decode_word-requires
 decode_word-requires g c = let h = c.in_ok-c.ensures.0 in (h.0, h.1, listed_room c.requires h.0)

@@ -3,5 +3,6 @@
 use native.Mathlib.Omega.{arith}
 use Rattle.packing.proofs.pack_game.Goals as goal
 
-pub returns-in-Held : goal.returns-in-Held
-returns-in-Held c = rw (c.in-Ok.is, c.in-Held.is) (omega (arith, c.from-in-Held.ensures, c.from-in-Held-2.ensures))
+pub returns-in-Ok-Held : goal.returns-in-Ok-Held
+returns-in-Ok-Held c =
+    rw (c.in-Ok-Held.is, rw c.in-Ok-Held.is at c.in-Ok-Held.field-0-is) (omega (arith, c.from-in-Ok-Held.ensures, c.from-in-Ok-Held-2.ensures))

@@ -10,7 +10,7 @@ use Rattle.game.proofs.Room.{answers_room, matrix_room}
 use Rattle.game.proofs.rooms.take_in.Goals as goal
 
 pub open-requires : goal.open-requires
-open-requires g c = omega (arith, c.requires.rooms_fit.table_fits, length-replicate {A = ℕ} g.row.TABLE 0)
+open-requires g c = omega (arith, c.requires.rooms_fit.table_fits, length-replicate {A = ℕ} g.row.TABLE_ROOM 0)
 
 pub game_words-requires : goal.game_words-requires
 game_words-requires g c =
