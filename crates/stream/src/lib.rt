@@ -26,7 +26,7 @@ pub fn step(
     let phase = s.phase;
     match phase {
         Phase::Opening => open_and_serve(s, piece, t, terms, answer, entries, out),
-        Phase::Answering => stream_serve::serve(s, piece, t, terms, answer, entries, out, 0),
+        Phase::Answering(c) => stream_serve::serve(s, c, piece, t, terms, answer, entries, out, 0),
         Phase::Ended => Stepped { state: s, end: 0 },
     }
 }
@@ -54,8 +54,9 @@ fn open_and_serve(
             state,
             end: taken.end,
         },
-        Phase::Answering => stream_serve::serve(
+        Phase::Answering(c) => stream_serve::serve(
             state,
+            c,
             &piece[at..],
             t,
             terms,

@@ -16,12 +16,11 @@ use std::io;
 use std::io::{Read, Write};
 use stream_turns::rooms::{PIECE, TEXT};
 
-// How a run ended: all was answered, or a read failed and what was read is answered, or a write failed.
-#[derive(Clone, Copy)]
-pub enum Ending {
-    Answered,
-    ReadFailed,
-    WriteFailed,
+// Why a run does not answer all of its input: a read failed, and what was read is answered, or a write failed.
+#[derive(Clone, Copy, Debug, PartialEq, Eq)]
+pub enum Failure {
+    Read,
+    Write,
 }
 
 // How many bytes came, and whether a read failed.
@@ -92,7 +91,7 @@ fn pass<R: Read, W: Write>(
     entries: &mut [u16],
     input: &mut [u8],
     output: &mut [u8],
-) -> Ending
+) -> Result<(), Failure>
     requires { (length t.old ≡ 8192) × (length terms.old ≡ 8384) × Rooms input.old answer.old entries.old output.old }
     ensures { piece_size ≤ length input.old → Answers result (R.remaining reader.old) (R.remaining reader.new) (W.contents writer.old) (W.contents writer.new) }
 {
@@ -111,20 +110,20 @@ fn pass<R: Read, W: Write>(
         left = stream_turns::turns_left(left, sent, taken.count == input.len(), s);
     }
     if !sent {
-        return Ending::WriteFailed;
+        return Err(Failure::Write);
     }
     let end = stream_turns::finish(s, output);
     if !send(writer, &output[..end]) {
-        return Ending::WriteFailed;
+        return Err(Failure::Write);
     }
     if failed {
-        return Ending::ReadFailed;
+        return Err(Failure::Read);
     }
-    Ending::Answered
+    Ok(())
 }
 
 // Answers what the reader gives: SCOPE 6.
-pub fn answer<R: Read, W: Write>(reader: &mut R, writer: &mut W) -> Ending
+pub fn answer<R: Read, W: Write>(reader: &mut R, writer: &mut W) -> Result<(), Failure>
     ensures { Answers result (R.remaining reader.old) (R.remaining reader.new) (W.contents writer.old) (W.contents writer.new) }
 {
     let mut t = [0u8; TABLE];
@@ -145,7 +144,7 @@ pub fn answer<R: Read, W: Write>(reader: &mut R, writer: &mut W) -> Ending
     )
 }
 
-// Answers standard input on standard output. How the run ended is not returned.
+// Answers standard input on standard output. Whether a read or a write failed is not told.
 pub fn run(rt: &(impl Input + Print)) {
-    answer(&mut rt.reader(), &mut io::writer(rt));
+    let _ = answer(&mut rt.reader(), &mut io::writer(rt));
 }

@@ -23,7 +23,7 @@ use Rattle.refusal.specs.Number.{number_of}
 use Rattle.refusal.proofs.Numbers.{number-not_zero}
 use Rattle.stream_state.specs.State.{phase_of, field_came, book_came, state_of, wanted_of, Waiting, Sized, Sound}
 use Rattle.stream_state.specs.Part.{Filled}
-use Rattle.stream_open.specs.Opening.{Judged, Told, told_text, placed, settled_of, Opens}
+use Rattle.stream_open.specs.Opening.{Judged, Told, told_text, phase_told, Opens}
 use Rattle.stream_open.proofs.Openings.{short_wanted, coming_short, steps-opening, steps-text-opening}
 
 -- nothing is listed yet in a room whose number 0 is 0
@@ -60,9 +60,9 @@ module _ (s : State) (waiting : Waiting s) (sized : Sized s) {piece field : List
     abbrev taken : List ℕ
     taken = take (head + body) piece
 
-    -- the state with them, in the phase that it had
-    abbrev pub s' : State
-    s' = record {
+    -- the state with them, in a phase
+    abbrev pub s' : Phase → State
+    s' phase = record {
       field = field;
       got = s.got + head;
       book = book;
@@ -70,8 +70,7 @@ module _ (s : State) (waiting : Waiting s) (sized : Sized s) {piece field : List
       count = s.count;
       begun = s.begun;
       held = s.held;
-      phase = Opening;
-      params = s.params;
+      phase = phase;
     }
 
     pub taken-within : head + body ≤ length piece
@@ -106,12 +105,12 @@ module _ (s : State) (waiting : Waiting s) (sized : Sized s) {piece field : List
         ∙ ap₂ (λ (f b : List ℕ). verdict_text (verdict f b)) (sym filled.joined.holds) (sym grown.joined.holds)
 
     -- what is told of them
-    pub taken-state : (told : Judged) {t : List ℕ} → Told field' book' told t → state_of (settled_of s' told) ≡ steps (state_of s) taken
+    pub taken-state : (told : Judged) (t : List ℕ) → Told field' book' told t → state_of (s' (phase_told told)) ≡ steps (state_of s) taken
     unfolding state_of
-    taken-state (Ok None) j = sym (after ∙ opened_is (state_of s) field' book' j.judges)
-    taken-state (Ok (Some c)) j = sym (after ∙ opened_is (state_of s) field' book' j.judges.0)
-    taken-state (Err why) j =
-        sym (after ∙ opened_is (state_of s) field' book' j.judges.0 ∙ ap (λ q. record {
+    taken-state (Ok None) t j = sym (after ∙ opened_is (state_of s) field' book' j)
+    taken-state (Ok (Some c)) t j = sym (after ∙ opened_is (state_of s) field' book' j.0)
+    taken-state (Err why) t j =
+        sym (after ∙ opened_is (state_of s) field' book' j ∙ ap (λ q. record {
           field = field';
           book = book';
           count = s.count;
@@ -119,14 +118,14 @@ module _ (s : State) (waiting : Waiting s) (sized : Sized s) {piece field : List
           phase = q;
         }) (refused_phase (number_of why) (number-not_zero why)))
 
-    pub taken-text : (told : Judged) {t : List ℕ} → Told field' book' told t → steps_text (state_of s) taken ≡ told_text told
-    taken-text (Ok None) j = after_text ∙ ap verdict_text j.judges
-    taken-text (Ok (Some c)) j = after_text ∙ ap verdict_text j.judges.0
-    taken-text (Err why) j = after_text ∙ ap verdict_text j.judges.0 ∙ opening_line (number_of why) (number-not_zero why)
+    pub taken-text : (told : Judged) (t : List ℕ) → Told field' book' told t → steps_text (state_of s) taken ≡ told_text told
+    taken-text (Ok None) t j = after_text ∙ ap verdict_text j
+    taken-text (Ok (Some c)) t j = after_text ∙ ap verdict_text j.0
+    taken-text (Err why) t j = after_text ∙ ap verdict_text j ∙ opening_line (number_of why) (number-not_zero why)
 
     -- all bytes are taken while the opening is still coming
-    pub taken-all : (told : Judged) {t : List ℕ} → Told field' book' told t → (settled_of s' told).phase ≡ Opening → head + body ≡ length piece
-    taken-all (Ok None) j e = by_size (dec_lt (s.got + head) 2)
+    pub taken-all : (told : Judged) (t : List ℕ) → Told field' book' told t → phase_told told ≡ Opening → head + body ≡ length piece
+    taken-all (Ok None) t j e = by_size (dec_lt (s.got + head) 2)
       where
         by_size : Dec (s.got + head < 2) → head + body ≡ length piece
         by_size (yes h) = omega (arith, filled.all h, taken-within)
@@ -136,16 +135,16 @@ module _ (s : State) (waiting : Waiting s) (sized : Sized s) {piece field : List
             length-take-le (s.came + body) book (omega (arith, size-le, grown.fits, grown.joined.kept)) in
             omega (
               arith,
-              grown.all (omega (arith, size_is, coming_short field' book' (omega arith) j.judges)),
+              grown.all (omega (arith, size_is, coming_short field' book' (omega arith) j)),
               length-drop head piece,
               filled.joined.within,
             )
-    taken-all (Ok (Some c)) j e = cc
-    taken-all (Err why) j e = cc
+    taken-all (Ok (Some c)) t j e = cc
+    taken-all (Err why) t j e = cc
 
     -- what the state satisfies
-    sized' : (q : Phase) (c : Params) → Sized (placed s' q c)
-    sized' q c =
+    sized' : (phase : Phase) → Sized (s' phase)
+    sized' phase =
         record {
           field_size = filled.joined.kept ∙ sized.field_size;
           book_size = grown.joined.kept ∙ sized.book_size;
@@ -155,55 +154,52 @@ module _ (s : State) (waiting : Waiting s) (sized : Sized s) {piece field : List
           held_le = sized.held_le;
         }
 
-    pub taken-sound : (told : Judged) {t terms : List ℕ} → Told field' book' told t → length t ≡ 8192 → length terms ≡ 8384 → weight_in terms ≡ 0
-        → Sound (settled_of s' told) t terms
-    taken-sound (Ok None) j t-size terms_size fresh =
+    pub taken-sound : (told : Judged) (t terms : List ℕ) → Told field' book' told t → length t ≡ 8192 → length terms ≡ 8384 → weight_in terms ≡ 0
+        → Sound (s' (phase_told told)) t terms
+    taken-sound (Ok None) t terms j t-size terms_size fresh =
         record {
-          sized = sized' Opening s.params;
+          sized = sized' Opening;
           table_size = t-size;
           terms_size = terms_size;
           in_phase =
               record {
-                coming = j.judges;
+                coming = j;
                 fits = omega (arith, grown.fits, size_is);
                 none_counted = waiting.none_counted;
                 none_held = waiting.none_held;
               };
         }
-    taken-sound (Ok (Some c)) j t-size terms_size fresh =
+    taken-sound (Ok (Some c)) t terms j t-size terms_size fresh =
         record {
-          sized = sized' Answering c;
+          sized = sized' (Answering c);
           table_size = t-size;
           terms_size = terms_size;
           in_phase =
               record {
-                describes = j.judges.1;
-                table_is = j.judges.2;
+                describes = j.1;
+                table_is = j.2;
                 terms_are = none_listed book' c _ terms_size fresh;
-                held_lt = omega (arith, waiting.none_held, j.judges.1.n_is, n_pos book' j.judges.1.accepted);
+                held_lt = omega (arith, waiting.none_held, j.1.n_is, n_pos book' j.1.accepted);
                 count_lt = omega (arith, waiting.none_counted);
               };
         }
-    taken-sound (Err why) j t-size terms_size fresh =
-        record { sized = sized' Ended s.params; table_size = t-size; terms_size = terms_size; in_phase = tt }
+    taken-sound (Err why) t terms j t-size terms_size fresh =
+        record { sized = sized' Ended; table_size = t-size; terms_size = terms_size; in_phase = tt }
 
     -- the whole
-    pub opens : {told : Judged} {t terms out₀ out : List ℕ} {end : ℕ} {r : State} → r ≡ settled_of s' told → Told field' book' told t
+    pub opens : (told : Judged) (t : List ℕ) {terms out₀ out : List ℕ} {end : ℕ} {phase : Phase} → phase ≡ phase_told told → Told field' book' told t
         → Printed out₀ 0 (told_text told) out end → end ≤ 5 → 5 ≤ length out₀ → length t ≡ 8192 → length terms ≡ 8384 → weight_in terms ≡ 0
-        → Opens s piece out₀ (record { state = r; at = head + body; end = end }) t terms out
-    opens {told} {t} {terms} {out₀} {out} {end} {r} is j printed low room t-size terms_size fresh =
+        → Opens s piece out₀ (record { state = s' phase; at = head + body; end = end }) t terms out
+    opens told t {terms} {out₀} {out} {end} {phase} is j printed low room t-size terms_size fresh =
         record {
           within = taken-within;
           steps_are =
               record {
-                state_is = is_state ∙ taken-state told j;
-                text_is = rw (taken-text told j) printed;
+                state_is = ap (λ (q : Phase). state_of (s' q)) is ∙ taken-state told t j;
+                text_is = rw (taken-text told t j) printed;
                 within = omega (arith, printed.kept);
               };
           end_le = low;
-          all = λ e. taken-all told j (ap (λ (x : State). x.phase) (sym is) ∙ e);
-          sound = subst (λ (x : State). Sound x t terms) (sym is) (taken-sound told j t-size terms_size fresh);
+          all = λ e. taken-all told t j (sym is ∙ e);
+          sound = subst (λ (q : Phase). Sound (s' q) t terms) (sym is) (taken-sound told t terms j t-size terms_size fresh);
         }
-      where
-        is_state : state_of r ≡ state_of (settled_of s' told)
-        is_state = ap state_of is

@@ -6,7 +6,7 @@ ghost use Rattle.spec_program.specs.Output.{book_length};
 ghost use Rattle.stream_text.specs.Printed.{Printed};
 ghost use Rattle.stream_state.specs.declared.Phase.TheVariants.{Opening};
 ghost use Rattle.stream_state.specs.State.{wanted_of, Sound};
-ghost use Rattle.stream_open.specs.Opening.{Told, Sayable, told_text, settled_of, Opens};
+ghost use Rattle.stream_open.specs.Opening.{Told, told_text, phase_told, Opens};
 
 use book::Params;
 use refusal::Refusal;
@@ -76,44 +76,23 @@ fn judge(
 
 // The text of the opening, which is none unless it is refused.
 fn put_told(told: Result<Option<Params>, Refusal>, out: &mut [u8]) -> usize
-    requires { Sayable told × (5 ≤ length out.old) }
+    requires { 5 ≤ length out.old }
     ensures { Printed out.old 0 (told_text told) out.new result × (result ≤ 5) }
 {
     match told {
         Ok(_) => 0,
-        Err(why) => stream_text::put_refusal(out, 0, u8::from(why)),
+        Err(why) => stream_text::put_refusal(out, 0, why),
     }
 }
 
-// The state with the phase that was told, and the parameters of an open book.
-fn settled(s: State, told: Result<Option<Params>, Refusal>) -> State
-    ensures { result ≡ settled_of s told }
+// The phase that what is told leads to.
+fn phase_told(told: Result<Option<Params>, Refusal>) -> Phase
+    ensures { result ≡ phase_told told }
 {
-    let field = s.field;
-    let book = s.book;
-    let begun = s.begun;
-    let mut phase = Phase::Opening;
-    let mut params = s.params;
     match told {
-        Ok(None) => {}
-        Ok(Some(c)) => {
-            phase = Phase::Answering;
-            params = c;
-        }
-        Err(_) => {
-            phase = Phase::Ended;
-        }
-    }
-    State {
-        field,
-        got: s.got,
-        book,
-        came: s.came,
-        count: s.count,
-        begun,
-        held: s.held,
-        phase,
-        params,
+        Ok(None) => Phase::Opening,
+        Ok(Some(c)) => Phase::Answering(c),
+        Err(_) => Phase::Ended,
     }
 }
 
@@ -133,8 +112,7 @@ pub fn open_with(s: State, piece: &[u8], t: &mut [u8], terms: &mut [u16], out: &
     let end = put_told(told, out);
     terms[0] = 0;
     let begun = s.begun;
-    let params = s.params;
-    let next = State {
+    let state = State {
         field,
         got,
         book,
@@ -142,11 +120,10 @@ pub fn open_with(s: State, piece: &[u8], t: &mut [u8], terms: &mut [u16], out: &
         count: s.count,
         begun,
         held: s.held,
-        phase: Phase::Opening,
-        params,
+        phase: phase_told(told),
     };
     Taken {
-        state: settled(next, told),
+        state,
         at: head + body,
         end,
     }

@@ -38,16 +38,16 @@ pub record Served (bytes : List ℕ) (c : Params) (a : Answers) (piece out₀ : 
   pub terms_are : TermsRoom bytes c terms
 
 -- the phase after `count` words
-abbrev pub phase_after : ℕ → Phase
-phase_after count = cond (ltb count most_words) Answering Ended
+abbrev pub phase_after : Params → ℕ → Phase
+phase_after c count = cond (ltb count most_words) (Answering c) Ended
 
 -- where a state's words stand, with the text that ends at `end`
 abbrev pub answers_of : State → ℕ → Answers
 answers_of s end = record { count = s.count; begun = s.begun; held = s.held; end = end }
 
--- the state s with other words
-abbrev pub resumed_of : State → Answers → State
-resumed_of s a = record {
+-- the state s with other words, by the parameters of its codebook
+abbrev pub resumed_of : State → Params → Answers → State
+resumed_of s c a = record {
   field = s.field;
   got = s.got;
   book = s.book;
@@ -55,6 +55,5 @@ resumed_of s a = record {
   count = a.count;
   begun = a.begun;
   held = a.held;
-  phase = phase_after a.count;
-  params = s.params;
+  phase = phase_after c a.count;
 }

@@ -124,23 +124,22 @@ pub fn answer(
 }
 
 // The phase after `count` words.
-fn phase_after(count: usize) -> Phase
-    ensures { result ≡ phase_after count }
+fn phase_after(c: Params, count: usize) -> Phase
+    ensures { result ≡ phase_after c count }
 {
     if count < MOST {
-        return Phase::Answering;
+        return Phase::Answering(c);
     }
     Phase::Ended
 }
 
 // The state with other words.
-fn resumed(s: State, a: Answers) -> State
-    ensures { result ≡ resumed_of s a }
+fn resumed(s: State, c: Params, a: Answers) -> State
+    ensures { result ≡ resumed_of s c a }
 {
     let field = s.field;
     let book = s.book;
     let begun = a.begun;
-    let params = s.params;
     State {
         field,
         got: s.got,
@@ -149,14 +148,14 @@ fn resumed(s: State, a: Answers) -> State
         count: a.count,
         begun,
         held: a.held,
-        phase: phase_after(a.count),
-        params,
+        phase: phase_after(c, a.count),
     }
 }
 
-// Takes a piece where the codebook is open. The text goes on at `end`.
+// Takes a piece where the codebook is open, and c are its parameters. The text goes on at `end`.
 pub fn serve(
     s: State,
+    c: Params,
     piece: &[u8],
     t: &[u8],
     terms: &mut [u16],
@@ -165,12 +164,11 @@ pub fn serve(
     out: &mut [u8],
     end: usize,
 ) -> Stepped
-    requires { Sound s t.now terms.old × (s.phase ≡ Answering) × (length answers.old ≡ 255) × (length entries.old ≡ 4080)
+    requires { Sound s t.now terms.old × (s.phase ≡ Answering c) × (length answers.old ≡ 255) × (length entries.old ≡ 4080)
         × (end + 6 * (s.held + length piece.now) ≤ length out.old) }
     ensures { Steps s piece.now out.old end result.state result.end out.new
         × Sound result.state t.now terms.new }
 {
-    let c = s.params;
     let n = c.n;
     let size = decode::matrix_size(c.p, n);
     let book = s.book;
@@ -194,7 +192,7 @@ pub fn serve(
         out,
     );
     Stepped {
-        state: resumed(s, done),
+        state: resumed(s, c, done),
         end: done.end,
     }
 }

@@ -3,6 +3,7 @@
 use Rattle.std.specs.Prelude.{◌≡◌, cond, List, ℕ, ◌≤◌, ◌<◌, ltb, length, take}
 use Rattle.spec_program.specs.Output.{most_words, book_length}
 use Rattle.spec_program.specs.Machine as M
+use Rattle.book.specs.declared.Params.{Params}
 use Rattle.book.specs.Params.{Tabulated, Describes}
 use Rattle.decode_rounds.specs.Rounds.{TermsRoom}
 use Rattle.stream_state.specs.declared.Phase.{Phase}
@@ -12,7 +13,7 @@ use Rattle.stream_state.specs.declared.State.{State}
 -- the phase that each case of the code's enum stands for
 abbrev pub phase_of : Phase → M.Phase
 phase_of Opening = M.opening
-phase_of Answering = M.answering
+phase_of (Answering c) = M.answering
 phase_of Ended = M.ended
 
 -- the bytes of the length field, of the codebook and of a begun word that came
@@ -40,17 +41,17 @@ pub record Waiting (s : State) : Type 0 where
   pub none_counted : s.count ≡ 0
   pub none_held : s.held ≡ 0
 
--- the codebook is open: t is its table, its terms are listed in `terms` or nothing is yet, and a word is less than begun
-pub record Serving (s : State) (t terms : List ℕ) : Type 0 where
-  pub describes : Describes (book_came s) s.params
-  pub table_is : Tabulated (book_came s) s.params.p s.params.n t
-  pub terms_are : TermsRoom (book_came s) s.params terms
-  pub held_lt : s.held < s.params.n
+-- the codebook is open: c are its parameters, t is its table, its terms are listed in `terms` or nothing is yet, and a word is less than begun
+pub record Serving (s : State) (c : Params) (t terms : List ℕ) : Type 0 where
+  pub describes : Describes (book_came s) c
+  pub table_is : Tabulated (book_came s) c.p c.n t
+  pub terms_are : TermsRoom (book_came s) c terms
+  pub held_lt : s.held < c.n
   pub count_lt : s.count < most_words
 
 abbrev pub InPhase : Phase → State → List ℕ → List ℕ → Type 0
 InPhase Opening s t terms = Waiting s
-InPhase Answering s t terms = Serving s t terms
+InPhase (Answering c) s t terms = Serving s c t terms
 InPhase Ended s t terms = Unit {0}
 
 -- the sizes of the arrays, and how much of each counts

@@ -15,15 +15,15 @@ pub const FIELD: usize = 2;
 // The most words that are read.
 pub const MOST: usize = 1000000;
 
-// The codebook's length or the codebook is still coming; or words come; or the run has ended.
+// The codebook's length or the codebook is still coming; or it is open, has these parameters, and words come; or the run has ended.
 #[derive(Clone, Copy)]
 pub enum Phase {
     Opening,
-    Answering,
+    Answering(Params),
     Ended,
 }
 
-// Where a run stands between two pieces. Of each array as many bytes count as the number after it says. The parameters are those of an open book.
+// Where a run stands between two pieces. Of each array as many bytes count as the number after it says.
 #[derive(Clone, Copy)]
 pub struct State {
     pub field: [u8; FIELD],
@@ -34,7 +34,6 @@ pub struct State {
     pub begun: Word,
     pub held: usize,
     pub phase: Phase,
-    pub params: Params,
 }
 
 // The next state, and where the text ends.
@@ -51,14 +50,6 @@ pub fn start() -> State
     let field = [0; FIELD];
     let book = [0; BOOK];
     let begun = [0; WIDTH];
-    let params = Params {
-        p: 0,
-        n: 0,
-        degree: 0,
-        rounds: 0,
-        places: 0,
-        duals: 0,
-    };
     State {
         field,
         got: 0,
@@ -68,6 +59,5 @@ pub fn start() -> State
         begun,
         held: 0,
         phase: Phase::Opening,
-        params,
     }
 }

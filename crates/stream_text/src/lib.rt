@@ -3,7 +3,10 @@
 
 ghost use Rattle.std.specs.Prelude.{◌≡◌, ◌∷◌, [], ◌+◌, ◌*◌, ◌≤◌, ◌<◌, length};
 ghost use Rattle.spec_program.specs.Line.{glyph, decimal_of, hex_of, answer_line, refusal_line};
+ghost use Rattle.refusal.specs.Number.{number_of};
 ghost use Rattle.stream_text.specs.Printed.{Printed};
+
+use refusal::Refusal;
 
 // One byte.
 fn put(out: &mut [u8], at: usize, b: u8) -> usize
@@ -88,13 +91,13 @@ pub fn put_answer(
 }
 
 // The line of a refusal: at most 5 bytes.
-pub fn put_refusal(out: &mut [u8], at: usize, number: u8) -> usize
-    requires { (number < 100) × (at + 5 ≤ length out.old) }
-    ensures printed { Printed out.old at (refusal_line number) out.new result }
+pub fn put_refusal(out: &mut [u8], at: usize, why: Refusal) -> usize
+    requires { at + 5 ≤ length out.old }
+    ensures printed { Printed out.old at (refusal_line (number_of why)) out.new result }
     ensures upper_bound { result ≤ at + 5 }
 {
     let a = put(out, at, b'R');
     let b = put(out, a, b' ');
-    let c = put_small(out, b, number);
+    let c = put_small(out, b, u8::from(why));
     put(out, c, b'\n')
 }

@@ -7,6 +7,7 @@ ghost use Rattle.stream_text.specs.Printed.{Printed};
 ghost use Rattle.stream_state.specs.State.{state_of, Sized};
 ghost use Rattle.stream_turns.specs.Turns.{turns_left};
 
+use refusal::Refusal;
 use stream_state::{FIELD, MOST, Phase, State};
 
 pub mod rooms;
@@ -21,7 +22,7 @@ fn is_over(s: State) -> bool
     let phase = s.phase;
     match phase {
         Phase::Opening => false,
-        Phase::Answering => false,
+        Phase::Answering(_) => false,
         Phase::Ended => true,
     }
 }
@@ -51,12 +52,12 @@ pub fn finish(s: State, out: &mut [u8]) -> usize
 {
     let phase = s.phase;
     match phase {
-        Phase::Opening => stream_text::put_refusal(out, 0, 1),
-        Phase::Answering => {
+        Phase::Opening => stream_text::put_refusal(out, 0, Refusal::BookLength),
+        Phase::Answering(_) => {
             if s.held == 0 {
                 return 0;
             }
-            stream_text::put_refusal(out, 0, 9)
+            stream_text::put_refusal(out, 0, Refusal::InputLength)
         }
         Phase::Ended => 0,
     }

@@ -1,12 +1,11 @@
 -- The line of a word, from what decode answers and writes, and the sizes of the numbers in it.
 -- Assumes nothing.
 use mathlib.Core.Path.{◌≡◌, sym, ap, ap₂, ◌∙◌}
-use mathlib.Core.Bool.{◌&&◌}
 use mathlib.Core.List.{List}
 use Prim.Native.Nat.{ℕ, zero, suc, ◌≤◌, ◌<◌}
 use native.Mathlib.Nat.{le_trans}
 use native.Mathlib.Omega.{arith}
-use lib.Dec.{eqb, leb→le}
+use lib.Dec.{leb→le}
 use lib.ListN.{length}
 use Rattle.spec_range.proofs.Tests.{and_left, and_right}
 use Rattle.spec_field.specs.Answer.{Answer, answer, or_else, left}
@@ -28,7 +27,6 @@ use Rattle.decode.specs.declared.Decoded.{Decoded}
 use Rattle.spec_program.specs.Line.{answer_line, refusal_line, line_of}
 use Rattle.spec_program.specs.Output.{word_size, word_line}
 use Rattle.stream_words.specs.Ready.{Ready}
-use Rattle.spec_book.proofs.Numbers.{input_number}
 
 -- a refusal's line has no answer word, and where nothing is refused the buffer holds it
 line_of_lem : (k : ℕ) (x : Result) (word₀ word : List ℕ) (a : Answer) → a ≡ answer k (values x) → word ≡ left k x.answer word₀
@@ -36,14 +34,10 @@ line_of_lem : (k : ℕ) (x : Result) (word₀ word : List ℕ) (a : Answer) → 
 line_of_lem zero x word₀ word a s b = ap₂ line_of (sym s) (sym b)
 line_of_lem (suc k) x word₀ word a s b = ap (λ d. line_of d word) (sym s)
 
--- the rounds of an answer, and the number of a refusal, are the definition's
+-- the rounds of an answer are the definition's
 same_rounds : (k : ℕ) (x : Result) (told : Decoded) → said (Ok told) ≡ answer k (values x) → told.rounds ≡ x.rounds
 same_rounds zero x told e = cc
 same_rounds (suc k) x told e = cc
-
-same_number : (k : ℕ) (x : Result) (why : Refusal) → said (Err why) ≡ answer k (values x) → number_of why ≡ k
-same_number zero x why e = cc
-same_number (suc k) x why e = cc
 
 module _ (bytes : List ℕ) (accepted : refusal bytes ≡ 0) (received : List ℕ) where
   result-sound : O.Sound (field_of bytes) (book_of bytes) received (book_of bytes).most_rounds (decode_bytes bytes received)
@@ -88,15 +82,5 @@ module _ (bytes : List ℕ) (c : Params) {t terms word₀ entries₀ : List ℕ}
 
   -- a refusal
   module _ (why : Refusal) {word entries : List ℕ} (h : Decodes number x word₀ entries₀ (said (Err why)) word entries) where
-    pub line_refused : {told : ℕ} → told ≡ number_of why → word_line bytes received ≡ refusal_line told
-    line_refused e = word-line h ∙ ap refusal_line (sym e)
-
-    pub number_small : number_of why < 100
-    unfolding decode_input_refusal
-    number_small =
-        let exact = eqb (length word₀) (word_size bytes) && eqb (length entries₀) (matrix_size bytes) in
-        omega (
-          arith,
-          same_number number x why h.says,
-          input_number (field_of bytes).q (eqb (length received) (word_size bytes)) exact received,
-        )
+    pub line_refused : word_line bytes received ≡ refusal_line (number_of why)
+    line_refused = word-line h

@@ -30,7 +30,7 @@ pub fn put_word(
             let letter = u8::from(told.kind);
             stream_text::put_answer(out, at, letter, told.rounds, told.changed, answer)
         }
-        Err(why) => stream_text::put_refusal(out, at, u8::from(why)),
+        Err(why) => stream_text::put_refusal(out, at, why),
     }
 }
 

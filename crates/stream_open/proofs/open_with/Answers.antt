@@ -17,9 +17,6 @@ fill-body-requires c =
 pub slice_bounds-judge-end : goal.slice_bounds-judge-end
 slice_bounds-judge-end c = sym (length-take-le _ _ (omega arith))
 
-pub put_told-end-requires : goal.put_told-end-requires
-put_told-end-requires c = (c.judge-told.ensures.sayable, omega (arith, c.requires.2))
-
 pub bounds-terms-0 : goal.bounds-terms-0
 bounds-terms-0 c = omega (arith, c.requires.0.terms_size)
 
@@ -29,7 +26,7 @@ overflow_add-result c = omega (arith, c.fill-body.ensures.joined.within, c.fill-
 pub returns : goal.returns
 returns c =
     opens _ (in_opening _ _ _ c.requires.0 c.requires.1) c.requires.0.sized c.fill-head.ensures c.requires.1 c.wanted-size.ensures.0
-    c.wanted-size.ensures.1 (rw (rest_is c.args.piece.now c.fill-head.result) at c.fill-body.ensures) c.settled.ensures
+    c.wanted-size.ensures.1 (rw (rest_is c.args.piece.now c.fill-head.result) at c.fill-body.ensures) _ _ c.phase_told.ensures
     c.judge-told.ensures c.put_told-end.ensures.0 c.put_told-end.ensures.1 c.requires.2
     (omega (arith, c.requires.0.table_size)) (length-set c.args.terms.now 0 0 ∙ c.requires.0.terms_size)
     (get_or-set_same c.args.terms.now 0 0 0 (omega (arith, c.requires.0.terms_size)))

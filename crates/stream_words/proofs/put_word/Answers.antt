@@ -1,14 +1,11 @@
 -- `stream_words::put_word` meets its contract: an answer's line, or a refusal's.
 -- Assumes nothing.
 use native.Mathlib.Omega.{arith}
-use Rattle.stream_words.proofs.Words.{line-answered, rounds-small, line_refused, number_small}
+use Rattle.stream_words.proofs.Words.{line-answered, rounds-small, line_refused}
 use Rattle.stream_words.proofs.put_word.Goals as goal
 
 pub put_answer-requires : goal.put_answer-requires
 put_answer-requires c = (rounds-small _ _ c.requires.0 _ _ c.in-Ok.ensures.0, omega (arith, c.requires.0.answer_size))
-
-pub put_refusal-requires : goal.put_refusal-requires
-put_refusal-requires c = omega (arith, number_small _ _ c.requires.0 _ _ c.in-Err.ensures.0)
 
 pub returns-in-Ok : goal.returns-in-Ok
 returns-in-Ok c = (
@@ -19,7 +16,7 @@ returns-in-Ok c = (
 
 pub returns-in-Err : goal.returns-in-Err
 returns-in-Err c = (
-  rw (line_refused _ _ c.requires.0 _ _ c.in-Err.ensures.0 c.from.ensures) c.put_refusal.ensures.printed,
+  rw (line_refused _ _ c.requires.0 _ _ c.in-Err.ensures.0) c.put_refusal.ensures.printed,
   omega arith,
   c.in-Err.ensures.1,
 )

@@ -1,6 +1,6 @@
--- `stream_open::settled` meets its contract: each return is a case of the definition.
+-- `stream_open::phase_told` meets its contract: each return is a case of the definition.
 -- Assumes nothing.
-use Rattle.stream_open.proofs.settled.Goals as goal
+use Rattle.stream_open.proofs.phase_told.Goals as goal
 
 pub returns-in-Ok-None : goal.returns-in-Ok-None
 returns-in-Ok-None c = rw (c.in-Ok-None.is, rw c.in-Ok-None.is at c.in-Ok-None.field-0-is)
