@@ -39,7 +39,7 @@ fn take_piece<R: Read>(reader: &mut R, piece: &mut [u8]) -> Taken
     ensures short { result.failed ≡ false → result.count < length piece.new → IsAtEnd (R.remaining reader.new) }
 {
     let mut count = 0;
-    // A read gives as many bytes as it has: no range counts them.
+    // A read gives as many bytes as it likes: no range counts them.
     while count < piece.len() {
         match reader.read(&mut piece[count..]) {
             Ok(0) => {

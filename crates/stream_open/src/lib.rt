@@ -21,18 +21,11 @@ pub struct Taken {
     pub end: usize,
 }
 
-// A byte as a number.
-fn wide(x: u8) -> usize
-    ensures { (result ≡ x) × (result < 256) }
-{
-    x as usize
-}
-
 // The codebook's length, two bytes, low first.
 fn book_length(field: [u8; FIELD]) -> usize
     ensures { result ≡ book_length field }
 {
-    wide(field[0]) + 256 * wide(field[1])
+    usize::from(field[0]) + 256 * usize::from(field[1])
 }
 
 // How many bytes of a codebook are read: none where its length is not known yet, or is too large.
