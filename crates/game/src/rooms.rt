@@ -11,12 +11,12 @@ use refusal::Refusal;
 // Takes a game with room for so many terms, a table and answer words of so many places, and a matrix of so many entries. It stands apart, so that a book has
 // no room on the stack for one that asks for more.
 #[inline(never)]
-pub fn take_in<const TERM_ROOM: usize, const TABLE_ROOM: usize, const ANSWER_ROOM: usize, const MATRIX_ROOM: usize>(
-    book: &[u8],
-    words: u32,
-    received: &[u8],
-    messages: &mut [u8],
-) -> Result<Game, Refusal>
+pub fn take_in<
+    const TERM_ROOM: usize,
+    const TABLE_ROOM: usize,
+    const ANSWER_ROOM: usize,
+    const MATRIX_ROOM: usize,
+>(book: &[u8], words: u32, received: &[u8], messages: &mut [u8]) -> Result<Game, Refusal>
     requires { GameFits book.now TERM_ROOM TABLE_ROOM ANSWER_ROOM MATRIX_ROOM }
     ensures { Games book.now (game_refusal book.now words received.now (length messages.old)) words
         received.now messages.old (said result) messages.new }
