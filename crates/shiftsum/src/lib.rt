@@ -76,13 +76,17 @@ pub fn shiftsum_decode(book: &[u8], received: &[u8], answer: &mut [u8]) -> u32
         (values (decode_bytes book.now received.now)) (decode_bytes book.now received.now).answer
         answer.old result answer.new }
 {
-    if !book::few_symbols(book) {
+    let few = book::few_symbols(book);
+    if book_layout::is_long(book) {
+        if few {
+            return decode_in::<LONG_FEW_MATRIX>(book, received, answer);
+        }
         return decode_in::<MATRIX>(book, received, answer);
     }
-    if book_layout::is_long(book) {
-        return decode_in::<LONG_FEW_MATRIX>(book, received, answer);
+    if few {
+        return decode_in::<FEW_MATRIX>(book, received, answer);
     }
-    decode_in::<FEW_MATRIX>(book, received, answer)
+    decode_in::<MATRIX>(book, received, answer)
 }
 
 // Decode a burst with room for a matrix of so many entries, of which the exact size is lent: its records come by value.
@@ -114,13 +118,17 @@ fn burst_made(
     ensures { Made (burst_refusal book.now words received.now (length answers.old) list (matrix_size book.now))
         words (burst_word book.now words received.now) answers.old result answers.new }
 {
-    if !book::few_symbols(book) {
+    let few = book::few_symbols(book);
+    if book_layout::is_long(book) {
+        if few {
+            return burst_in::<LONG_FEW_MATRIX>(book, words, received, answers, list);
+        }
         return burst_in::<MATRIX>(book, words, received, answers, list);
     }
-    if book_layout::is_long(book) {
-        return burst_in::<LONG_FEW_MATRIX>(book, words, received, answers, list);
+    if few {
+        return burst_in::<FEW_MATRIX>(book, words, received, answers, list);
     }
-    burst_in::<FEW_MATRIX>(book, words, received, answers, list)
+    burst_in::<MATRIX>(book, words, received, answers, list)
 }
 
 // Decode a burst, and write its records into the caller's list. This is the one function over a slice of structs: all else is done by

@@ -8,6 +8,13 @@ use Rattle.coder.proofs.Opening.{ended, code-number, taken}
 use Rattle.coder.proofs.Working.{room_within, product_fits, word_coded}
 use Rattle.coder.proofs.code_message.Goals as goal
 
+pub returns : goal.returns
+returns c =
+    λ bytes b.
+    let i = taken _ _ c.order-q.ensures c.in_ok-refusal.ensures in
+    wrote_made (sym (code-number b _ _ c.order-q.ensures c.message_fits-fits.ensures c.in_ok-refusal.ensures))
+    (word_coded b i c.message_fits-fits.ensures c.product.ensures c.store.ensures)
+
 pub overflow_sub-k : goal.overflow_sub-k
 overflow_sub-k c = omega (arith, degree_high _ _ c.requires.open_book.describes)
 
@@ -26,10 +33,3 @@ pub store-requires : goal.store-requires
 store-requires c =
     let i = taken _ _ c.order-q.ensures c.in_ok-refusal.ensures in
     room_within c.requires.open_book i (omega arith) (omega (arith, c.product.ensures.long))
-
-pub returns : goal.returns
-returns c =
-    λ bytes b.
-    let i = taken _ _ c.order-q.ensures c.in_ok-refusal.ensures in
-    wrote_made (sym (code-number b _ _ c.order-q.ensures c.message_fits-fits.ensures c.in_ok-refusal.ensures))
-    (word_coded b i c.message_fits-fits.ensures c.product.ensures c.store.ensures)

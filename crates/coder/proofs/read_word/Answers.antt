@@ -10,6 +10,14 @@ use Rattle.coder.proofs.Opening.{ended, read_number, taken}
 use Rattle.coder.proofs.Working.{room_within, division_fits, word-tested, word_read}
 use Rattle.coder.proofs.read_word.Goals as goal
 
+pub returns : goal.returns
+returns c =
+    λ bytes b.
+    let i = taken _ _ c.order-q.ensures c.in_ok-refusal.ensures in
+    let tested = word-tested b _ c.divide.ensures c.if-not-is_zero.ensures in
+    wrote_made (code-word _ _ _ (read_number b _ _ c.order-q.ensures c.in_ok-refusal.ensures) refl tested refl)
+    (word_read b _ c.divide.ensures i.room_is c.store.ensures)
+
 pub overflow_sub-k : goal.overflow_sub-k
 overflow_sub-k c = omega (arith, degree_high _ _ c.requires.open_book.describes)
 
@@ -39,11 +47,3 @@ pub store-requires : goal.store-requires
 store-requires c =
     let i = taken _ _ c.order-q.ensures c.in_ok-refusal.ensures in
     room_within c.requires.open_book i (omega arith) (omega (arith, c.divide.auto.quotient))
-
-pub returns : goal.returns
-returns c =
-    λ bytes b.
-    let i = taken _ _ c.order-q.ensures c.in_ok-refusal.ensures in
-    let tested = word-tested b _ c.divide.ensures c.if-not-is_zero.ensures in
-    wrote_made (code-word _ _ _ (read_number b _ _ c.order-q.ensures c.in_ok-refusal.ensures) refl tested refl)
-    (word_read b _ c.divide.ensures i.room_is c.store.ensures)

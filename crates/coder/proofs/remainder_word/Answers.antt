@@ -8,6 +8,13 @@ use Rattle.coder.proofs.Opening.{ended, remainder-number, taken}
 use Rattle.coder.proofs.Working.{room_within, division_fits, word-remainder}
 use Rattle.coder.proofs.remainder_word.Goals as goal
 
+pub returns : goal.returns
+returns c =
+    λ bytes b.
+    let i = taken _ _ c.order-q.ensures c.in_ok-refusal.ensures in
+    wrote_made (sym (remainder-number b _ _ c.order-q.ensures c.in_ok-refusal.ensures))
+    (word-remainder b _ c.divide.ensures i.room_is c.store.ensures)
+
 pub order-q-requires : goal.order-q-requires
 order-q-requires c = (params_sizes _ _ c.requires.open_book.describes).p_high
 
@@ -21,10 +28,3 @@ pub store-requires : goal.store-requires
 store-requires c =
     let i = taken _ _ c.order-q.ensures c.in_ok-refusal.ensures in
     room_within c.requires.open_book i (omega (arith, degree_high _ _ c.requires.open_book.describes)) (omega (arith, c.divide.auto.v))
-
-pub returns : goal.returns
-returns c =
-    λ bytes b.
-    let i = taken _ _ c.order-q.ensures c.in_ok-refusal.ensures in
-    wrote_made (sym (remainder-number b _ _ c.order-q.ensures c.in_ok-refusal.ensures))
-    (word-remainder b _ c.divide.ensures i.room_is c.store.ensures)

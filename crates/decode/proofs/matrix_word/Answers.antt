@@ -15,6 +15,14 @@ use Rattle.decode_rounds.proofs.Stepping.{params_fillable}
 use Rattle.decode.proofs.Answering.{matrix_number, input, input-size, input-listed, loaded-stored, matrix_made}
 use Rattle.decode.proofs.matrix_word.Goals as goal
 
+pub returns : goal.returns
+returns c =
+    let d = c.requires in
+    let asked = c.in_ok-refusal.ensures in
+    wrote_made (sym (matrix_number _ _ d _ _ asked c.order.ensures c.matrix_size.ensures))
+    (matrix_made _ _ d c.args.received.now (input-listed _ _ d c.args.received.now _ asked c.order.ensures) c.load-r.ensures
+    (c.fill.ensures _ (params_fillable _ _ d) c.list.ensures.0))
+
 pub matrix_size-requires : goal.matrix_size-requires
 matrix_size-requires c = let s = params_sizes _ _ c.requires in (s.p_high, s.n_high)
 
@@ -43,11 +51,3 @@ fill-requires c =
       whole_steps ok,
       whole_few ok,
     )
-
-pub returns : goal.returns
-returns c =
-    let d = c.requires in
-    let asked = c.in_ok-refusal.ensures in
-    wrote_made (sym (matrix_number _ _ d _ _ asked c.order.ensures c.matrix_size.ensures))
-    (matrix_made _ _ d c.args.received.now (input-listed _ _ d c.args.received.now _ asked c.order.ensures) c.load-r.ensures
-    (c.fill.ensures _ (params_fillable _ _ d) c.list.ensures.0))

@@ -1,10 +1,12 @@
 -- `shiftsum::shiftsum_remainder` meets its contract.
 -- Assumes nothing.
-use mathlib.Core.Path.{ap, ◌∙◌}
+use mathlib.Core.Path.{refl, ap, ◌∙◌}
 use Rattle.spec_operations.specs.Packed.{result_of}
+use Rattle.refusal.specs.Number.{said}
+use Rattle.packing.proofs.Refusing.{packed_said}
 use Rattle.shiftsum.proofs.shiftsum_remainder.Goals as goal
 
 pub returns : goal.returns
 returns c =
     let h = c.remainder.ensures in
-    record { returns = c.pack_done.ensures ∙ ap result_of h.says; buffer = h.buffer }
+    record { returns = packed_said said (λ why. refl) _ c.pack_done.ensures ∙ ap result_of h.says; buffer = h.buffer }

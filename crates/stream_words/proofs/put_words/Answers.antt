@@ -28,13 +28,6 @@ loop-word-init c =
       },
     )
 
-pub put_word-next-requires : goal.put_word-next-requires
-put_word-next-requires c =
-    let row = c.loop-word.invariant.3 in
-    let word = c.in-Some.ensures.steps.1 in
-    let d = row.ready.describes in
-    (row.ready, omega (arith, word_low _ _ d, row_length _ _ d _ _ word.0 (word.1 ∙ c.loop-word.invariant.2), row.room))
-
 pub loop-word-preserved : goal.loop-word-preserved
 loop-word-preserved c =
     let row = c.loop-word.invariant.3 in
@@ -64,6 +57,13 @@ loop-word-preserved c =
         room = omega (arith, row_length _ _ d _ _ cut size, row.room);
       },
     )
+
+pub put_word-next-requires : goal.put_word-next-requires
+put_word-next-requires c =
+    let row = c.loop-word.invariant.3 in
+    let word = c.in-Some.ensures.steps.1 in
+    let d = row.ready.describes in
+    (row.ready, omega (arith, word_low _ _ d, row_length _ _ d _ _ word.0 (word.1 ∙ c.loop-word.invariant.2), row.room))
 
 pub returns : goal.returns
 returns c =
